@@ -1,0 +1,84 @@
+-- Demand 3's hypotheses can be met: a start, and a list with refused orders in it after which the two totals are equal.
+use Prim.Native.Nat.{ℕ}
+use mathlib.Core.Path.{refl, sym, _∙_, _≡_}
+use mathlib.Core.List.{_++_, List, [], _∷_}
+use lib.Dec.{lit<, lit≤}
+use lib.ListN.{replicate}
+use native.Mathlib.Omega.{arith}
+use Rattle.buffer.specs.LittleEndian.{le, val}
+use Rattle.record.specs.Answers.{checkProgram, checkTerm, checkedBy, padded, storedBy, wroteBy}
+use Rattle.record.specs.Fix.{fixed, fuelled}
+use Rattle.record.specs.Header.{blockBytes, blockIn, contents, encodeProgram, encodeTerm, headed, kField, kindField, lengthField, termBytes, termIn}
+use Rattle.record.specs.Program.{blockSize, boundFrom, boundKind, boundNumber, commandKind, decodeBlock, decodeBlockPart, decodeBlockStep, decodeCommand, encodeBlock, exprFrom, exprKind, exprNumber}
+use Rattle.record.specs.Reading.{anyRecord, anyRecordOf, atEnd, bind, encodeLeaf, fromSome, leaf, leafOf, ofKind, pick, sub, subOf, then, word}
+use Rattle.record.specs.Record.{cut, encodeRecord, split}
+use Rattle.record.specs.Rows.{badBlock, badBuffer, badHeader, badK, badStore, badTerm, blockOutside, finishedTerm, firstRow, holds, isNone, openTerm, orElse, pickRow, termOutside, tooLong, unfinished}
+use Rattle.record.specs.Term.{atomFrom, atomKind, atomNumber, decodeAtoms, decodeTerm, decodeTermKind, decodeTermStep, encodeAtoms, encodeSimple, encodeTermRecord, kindOfTerm, lastTerm, measureTerm, onlyAtom, plainOf, readSimple, simpleBy, simpleFrom, simpleKindIf, simpleSize, termContents, termKind, termKindIf, termSize}
+use Rattle.reducer.specs.RunReducer.{reducedTo, reducerBy, runReducer}
+use Rattle.rules.specs.FreeVariables.{adding, closed, closedAtom, closedAtoms, closedIn, closedSimple}
+use Rattle.rules.specs.Play.{plays}
+use Rattle.rules.specs.ReadBack.{blockOfSource, boundOf, exprOf, readBack, sameAtom, sameAtoms, source, sourceLetAll, sourceLetOne, sourceRec}
+use Rattle.rules.specs.Reduction.{onNext, reduce, reduceInside, reduceLetOne, unrollRec, valueOf}
+use Rattle.rules.specs.Run.{goOn, iterate, oneMore, orStop, outcomeOf, run, runOn, stop}
+use Rattle.rules.specs.Scope.{atomInRange, atomsInRange, blockInRange, boundInRange, exprInRange, inRange, simpleInRange, termInRange}
+use Rattle.rules.specs.Step.{boundValue, step, stepAssign, stepBlock, stepInside, unrollLoop}
+use Rattle.rules.specs.Store.{fitsWord, lookup, minusOne, update}
+use Rattle.rules.specs.Substitution.{except, fromStore, only, orRef, stateOf, substitute, substituteAtom, substituteSimple}
+use Rattle.rules.specs.Translation.{atomOf, refs, simpleOf, translate}
+use Rattle.run.specs.RunAnswer.{outcomeNumber, roomFor}
+use Rattle.stepper.specs.RunStepper.{runStepper, steppedTo, stepperBy}
+use Rattle.term.specs.Calls.{noSource, numerals, readBackCall, resultCall, substituteCall, substituted, tooShort, translateCall}
+use Rattle.agreement.specs.Demand3.{Agree, Demand3, Start, startWorld}
+use Rattle.agreement.specs.Loads.{acceptedValues, add, budget, configOfLoad, endingOfReducer, endingOfStepper, expected, loads, programBytesOf, reducerEnding, reducerExpected, shown, shownBy, shownFrom, stepperEnding, substitutedOf, translatedOf}
+use Rattle.agreement.specs.Orders.{Order, afterReducer, afterStepper, lentStore, order, other, own, play, storeAfter, toReducer, toStepper, usedAfter}
+use Rattle.agreement.proofs.Demand3Laws.{demand3}
+
+-- P1, in a stepper's buffer of 160 bytes and a reducer's of 400, with nines behind the records
+pub witness : Start 4 add (7 ∷ 3 ∷ 0 ∷ 0 ∷ [])
+unfolding adding closedAtom closedAtoms closedSimple closedIn closed plays sameAtom sameAtoms exprOf boundOf sourceLetOne sourceLetAll sourceRec source blockOfSource readBack valueOf unrollRec reduceInside reduceLetOne reduce onNext orStop iterate outcomeOf stop oneMore goOn runOn run inRange exprInRange boundInRange blockInRange atomInRange atomsInRange simpleInRange termInRange boundValue unrollLoop stepInside stepAssign stepBlock step fitsWord minusOne lookup update fromStore only except orRef substituteAtom substituteSimple substitute stateOf refs simpleOf atomOf translate le val padded checkedBy checkProgram checkTerm wroteBy storedBy fuelled fixed lengthField kindField kField contents headed blockBytes termBytes blockIn termIn encodeProgram encodeTerm exprKind exprNumber boundKind boundNumber exprFrom boundFrom encodeBlock blockSize commandKind decodeCommand decodeBlockPart decodeBlockStep decodeBlock then bind atEnd fromSome pick word ofKind subOf sub encodeLeaf leafOf leaf anyRecordOf anyRecord encodeRecord cut split pickRow firstRow isNone holds orElse tooLong badBuffer badHeader badK badBlock badTerm blockOutside termOutside badStore openTerm finishedTerm unfinished atomKind atomNumber atomFrom encodeAtoms decodeAtoms simpleKindIf encodeSimple simpleSize onlyAtom plainOf simpleBy simpleFrom readSimple kindOfTerm termContents encodeTermRecord termSize termKindIf termKind lastTerm decodeTermKind decodeTermStep measureTerm decodeTerm outcomeNumber roomFor tooShort translateCall noSource readBackCall substituteCall numerals resultCall steppedTo stepperBy runStepper reducedTo reducerBy runReducer shownBy budget stepperEnding reducerEnding configOfLoad programBytesOf translatedOf substitutedOf endingOfStepper acceptedValues endingOfReducer shownFrom shown reducerExpected expected loads lentStore storeAfter usedAfter afterStepper afterReducer order
+witness = record {
+  checkBuf = encodeProgram 4 add;
+  checkUsed = 64;
+  checked = refl;
+  program = refl;
+  programWords = (lit< tt, lit< tt, (lit< tt, lit< tt, (lit< tt, lit< tt, tt), tt));
+  termBuf = encodeTerm 4 (translate 4 add);
+  termUsed = 172;
+  term = refl;
+  substituted = refl;
+  storeValues = (refl, (refl, (refl, (refl, tt))));
+  stepperBuf = encodeProgram 4 add ++ nines 96;
+  stepperBegins = refl;
+  reducerBuf = encodeTerm 4 (substitute (fromStore (7 ∷ 3 ∷ 0 ∷ 0 ∷ [])) (translate 4 add)) ++ nines 228;
+  reducerUsed = 172;
+  reducerFits = lit≤ tt;
+  reducerBegins = refl;
+}
+  where
+    nines : ℕ → List ℕ
+    nines n = replicate n 9
+
+-- the third order's used length is not the second's, the fourth lends no values, the last has a wrong used length
+abbrev orders : List Order
+orders = toStepper 64 own 5
+    ∷ toReducer 172 7
+    ∷ toStepper 64 own 9
+    ∷ toStepper 124 (other []) 9
+    ∷ toStepper 124 own 2
+    ∷ toReducer 5 9
+    ∷ []
+
+pub record Totals : Type 0 where
+  pub stepper : (play (startWorld 4 add (7 ∷ 3 ∷ 0 ∷ 0 ∷ []) witness) orders) .stepperTotal ≡ 7
+  pub reducer : (play (startWorld 4 add (7 ∷ 3 ∷ 0 ∷ 0 ∷ []) witness) orders) .reducerTotal ≡ 7
+
+pub totals : Totals
+unfolding witness adding closedAtom closedAtoms closedSimple closedIn closed plays sameAtom sameAtoms exprOf boundOf sourceLetOne sourceLetAll sourceRec source blockOfSource readBack valueOf unrollRec reduceInside reduceLetOne reduce onNext orStop iterate outcomeOf stop oneMore goOn runOn run inRange exprInRange boundInRange blockInRange atomInRange atomsInRange simpleInRange termInRange boundValue unrollLoop stepInside stepAssign stepBlock step fitsWord minusOne lookup update fromStore only except orRef substituteAtom substituteSimple substitute stateOf refs simpleOf atomOf translate le val padded checkedBy checkProgram checkTerm wroteBy storedBy fuelled fixed lengthField kindField kField contents headed blockBytes termBytes blockIn termIn encodeProgram encodeTerm exprKind exprNumber boundKind boundNumber exprFrom boundFrom encodeBlock blockSize commandKind decodeCommand decodeBlockPart decodeBlockStep decodeBlock then bind atEnd fromSome pick word ofKind subOf sub encodeLeaf leafOf leaf anyRecordOf anyRecord encodeRecord cut split pickRow firstRow isNone holds orElse tooLong badBuffer badHeader badK badBlock badTerm blockOutside termOutside badStore openTerm finishedTerm unfinished atomKind atomNumber atomFrom encodeAtoms decodeAtoms simpleKindIf encodeSimple simpleSize onlyAtom plainOf simpleBy simpleFrom readSimple kindOfTerm termContents encodeTermRecord termSize termKindIf termKind lastTerm decodeTermKind decodeTermStep measureTerm decodeTerm outcomeNumber roomFor tooShort translateCall noSource readBackCall substituteCall numerals resultCall steppedTo stepperBy runStepper reducedTo reducerBy runReducer shownBy budget stepperEnding reducerEnding configOfLoad programBytesOf translatedOf substitutedOf endingOfStepper acceptedValues endingOfReducer shownFrom shown reducerExpected expected loads lentStore storeAfter usedAfter afterStepper afterReducer order
+totals = record { stepper = refl; reducer = refl }
+
+-- so the engines agree after that list
+pub agreed : Agree 4 (play (startWorld 4 add (7 ∷ 3 ∷ 0 ∷ 0 ∷ []) witness) orders)
+unfolding Demand3
+agreed =
+    demand3 4 add (7 ∷ 3 ∷ 0 ∷ 0 ∷ []) witness orders (tt, (tt, (tt, ((λ e. let z : 0 ≡ 4 = e in omega arith), (tt, (tt, tt))))))
+    (totals .stepper ∙ sym (totals .reducer))

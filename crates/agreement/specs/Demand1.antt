@@ -1,0 +1,52 @@
+-- DEMAND 1: whoever hands in a program, a term or a store, sound or damaged, gets an outcome or one of ten numbered refusals,
+-- and a refusal changes no byte that was lent. (That each call ends is part of every function's proof.)
+use Prim.Native.Nat.{ℕ, _≤_}
+use mathlib.Core.Path.{_≡_}
+use mathlib.Core.Logic.{_↔_}
+use mathlib.Core.List.{List}
+use mathlib.Core.Option.{none}
+use Rattle.record.specs.Answers.{checkProgram, checkProgramRows, checkTerm, checkTermRows}
+use Rattle.record.specs.Rows.{First, NoRow, Row, firstRow}
+use Rattle.reducer.specs.RunReducer.{reducerRows, runReducer}
+use Rattle.run.specs.RunAnswer.{refusal}
+use Rattle.stepper.specs.RunStepper.{runStepper, stepperRows}
+use Rattle.term.specs.Calls.{readBackCall, readBackRows, resultCall, resultRows, substituteCall, substituteRows, translateCall, translateRows}
+use Rattle.weighing.specs.Weigh.{weighCall, weighRows}
+use Rattle.agreement.specs.Loads.{budget}
+
+-- n is at most 10; it is 0 exactly where no row of the call applies, and else the number of the first that does.
+pub record Numbers (rows : List Row) (n : ℕ) : Type 0 where
+  pub ten : n ≤ 10
+  pub none : (n ≡ 0) ↔ NoRow rows
+  pub first : First rows n
+
+pub record Demand1 : Type 0 where
+  -- every call gives the first row of its own that applies
+  pub checkProgramNumber : (buf : List ℕ) (used : ℕ) → Numbers (checkProgramRows buf used) ((checkProgram buf used) .number)
+  pub checkTermNumber : (buf : List ℕ) (used : ℕ) → Numbers (checkTermRows buf used) ((checkTerm buf used) .number)
+  pub translateNumber : (src : List ℕ) (used : ℕ) (out : List ℕ) → Numbers (translateRows src used out) ((translateCall src used out) .number)
+  pub readBackNumber : (src : List ℕ) (used : ℕ) (out : List ℕ) → Numbers (readBackRows src used out) ((readBackCall src used out) .number)
+  pub substituteNumber : (buf : List ℕ) (used : ℕ) (store : List ℕ) → Numbers (substituteRows buf used store) ((substituteCall buf used store) .number)
+  pub stepperNumber : (buf : List ℕ) (used : ℕ) (store : List ℕ) (budget : ℕ) → Numbers (stepperRows buf used store) ((runStepper buf used store budget) .answer .number)
+  pub reducerNumber : (buf : List ℕ) (used budget : ℕ) → Numbers (reducerRows buf used) ((runReducer buf used budget) .answer .number)
+  pub resultNumber : (buf : List ℕ) (used : ℕ) (store : List ℕ) → Numbers (resultRows buf used store) ((resultCall buf used store) .number)
+  pub weighNumber : (gross tare : ℕ) (store : List ℕ) → Numbers (weighRows store) ((weighCall gross tare store) .number)
+  -- a refusal gives its number and 0 for everything else, and leaves every slice as it came
+  pub checkProgramRefused : (buf : List ℕ) (used : ℕ) → (firstRow (checkProgramRows buf used) ≡ 0 → ⊥)
+      → checkProgram buf used ≡ record { number = firstRow (checkProgramRows buf used); k = 0 }
+  pub checkTermRefused : (buf : List ℕ) (used : ℕ) → (firstRow (checkTermRows buf used) ≡ 0 → ⊥)
+      → checkTerm buf used ≡ record { number = firstRow (checkTermRows buf used); k = 0 }
+  pub translateRefused : (src : List ℕ) (used : ℕ) (out : List ℕ) → (firstRow (translateRows src used out) ≡ 0 → ⊥)
+      → translateCall src used out ≡ record { number = firstRow (translateRows src used out); used = 0; written = out }
+  pub readBackRefused : (src : List ℕ) (used : ℕ) (out : List ℕ) → (firstRow (readBackRows src used out) ≡ 0 → ⊥)
+      → readBackCall src used out ≡ record { number = firstRow (readBackRows src used out); used = 0; written = out }
+  pub substituteRefused : (buf : List ℕ) (used : ℕ) (store : List ℕ) → (firstRow (substituteRows buf used store) ≡ 0 → ⊥)
+      → substituteCall buf used store ≡ record { number = firstRow (substituteRows buf used store); used = 0; written = buf }
+  pub stepperRefused : (buf : List ℕ) (used : ℕ) (store : List ℕ) (budget : ℕ) → (firstRow (stepperRows buf used store) ≡ 0 → ⊥)
+      → runStepper buf used store budget ≡ record { answer = refusal (firstRow (stepperRows buf used store)); buf = buf; store = store }
+  pub reducerRefused : (buf : List ℕ) (used budget : ℕ) → (firstRow (reducerRows buf used) ≡ 0 → ⊥)
+      → runReducer buf used budget ≡ record { answer = refusal (firstRow (reducerRows buf used)); buf = buf }
+  pub resultRefused : (buf : List ℕ) (used : ℕ) (store : List ℕ) → (firstRow (resultRows buf used store) ≡ 0 → ⊥)
+      → resultCall buf used store ≡ record { number = firstRow (resultRows buf used store); store = store }
+  pub weighRefused : (gross tare : ℕ) (store : List ℕ) → (firstRow (weighRows store) ≡ 0 → ⊥)
+      → weighCall gross tare store ≡ record { number = firstRow (weighRows store); store = store }

@@ -1,0 +1,56 @@
+-- DEMAND 2: steps, translation and reductions are the paper's as 01 fixes them; the read-back accepts, given buffer enough,
+-- exactly the terms that some program translates to, and gives that program; a run makes a further step exactly when budget is
+-- left, it isn't finished, the next value isn't too large and the next state fits.
+use Prim.Native.Nat.{_<_, ℕ, _≤_}
+use mathlib.Core.Path.{_≡_}
+use mathlib.Core.Logic.{_↔_}
+use mathlib.Core.Bool.{true}
+use mathlib.Core.List.{List}
+use lib.ListN.{length}
+use Rattle.buffer.specs.LittleEndian.{Bytes}
+use Rattle.record.specs.Answers.{checkProgram, checkTerm}
+use Rattle.record.specs.Holding.{ProgramIn, TermIn}
+use Rattle.record.specs.RowMeaning.{RowsMean}
+use Rattle.reducer.specs.ReducerRan.{ReducerRan}
+use Rattle.reducer.specs.RunReducer.{runReducer}
+use Rattle.rules.specs.FreeVariables.{allVars, closed, noVars}
+use Rattle.rules.specs.Reduction.{reduce}
+use Rattle.rules.specs.Rules.{Raises, RaisesTerm, Reduce, Step}
+use Rattle.rules.specs.Sound.{SmallValues}
+use Rattle.rules.specs.Step.{step}
+use Rattle.rules.specs.Store.{fitsWord, noLimit}
+use Rattle.rules.specs.Syntax.{Atom, Block, Config, Term, empty, finished, next, over, tuple}
+use Rattle.rules.specs.Translation.{translate}
+use Rattle.stepper.specs.RunStepper.{runStepper, steps}
+use Rattle.stepper.specs.StepperRan.{StepperRan}
+use Rattle.term.specs.CallMeaning.{CallsMean}
+use Rattle.weighing.specs.WeighMeaning.{WeighMeans}
+use Rattle.agreement.specs.Loads.{budget}
+
+pub record Demand2 : Type 0 where
+  -- THE RULES: a step, and a reduction of a closed term, is one of the paper's; over is a value that the rule works out and
+  -- that is too large; finished is the empty block, and the tuple
+  pub steps : (c d : Config) → (step fitsWord c ≡ next d) ↔ Step fitsWord c d
+  pub reduces : (t u : Term) → closed t ≡ true → (reduce fitsWord t ≡ next u) ↔ Reduce fitsWord t u
+  pub stepsOver : (c : Config) → (step fitsWord c ≡ over) ↔ ((n : ℕ) × Raises c n × (4294967295 < n))
+  pub reducesOver : (t : Term) → closed t ≡ true → (reduce fitsWord t ≡ over) ↔ ((n : ℕ) × RaisesTerm t n × (4294967295 < n))
+  pub stepsOverRules : (c : Config) → (step fitsWord c ≡ over) ↔ ((d : Config) × Step noLimit c d × (Step fitsWord c d → ⊥))
+  pub reducesOverRules : (t : Term) → closed t ≡ true → (reduce fitsWord t ≡ over) ↔ ((u : Term) × Reduce noLimit t u × (Reduce fitsWord t u → ⊥))
+  pub stepsFinished : (c : Config) → ((vs : List ℕ) × (step fitsWord c ≡ finished vs)) ↔ (c .block ≡ empty)
+  pub reducesFinished : (t : Term) → ((vs : List ℕ) × (reduce fitsWord t ≡ finished vs)) ↔ ((l : List Atom) × (t ≡ tuple l))
+  pub injective : (k : ℕ) (P Q : Block) → translate k P ≡ translate k Q → P ≡ Q
+  -- THE ROWS' TESTS in plain facts, and what translate, read back, substitute, result and weigh answer
+  pub rowsMean : RowsMean
+  pub callsMean : CallsMean
+  pub weighMeans : WeighMeans
+  -- CHECK: 0 and k exactly where the bytes are the record of a program, of a term, in a buffer that is not too long
+  pub checksProgram : (k : ℕ) (buf : List ℕ) (used : ℕ) → Bytes buf
+      → (checkProgram buf used ≡ record { number = 0; k = k }) ↔ ((length buf ≤ 16384) × ((P : Block) × ProgramIn k P buf used))
+  pub checksTerm : (k : ℕ) (buf : List ℕ) (used : ℕ) → Bytes buf
+      → (checkTerm buf used ≡ record { number = 0; k = k }) ↔ ((length buf ≤ 16384) × ((t : Term) × TermIn allVars k t buf used))
+  -- THE RUNS, of any program, and of any closed term
+  pub runsStepper : (k : ℕ) (P : Block) (buf : List ℕ) (used : ℕ) (store : List ℕ) (budget : ℕ)
+      → ProgramIn k P buf used → length buf ≤ 16384 → length store ≡ k → SmallValues fitsWord store
+      → StepperRan k (record { block = P; store = store }) (length buf) budget (runStepper buf used store budget)
+  pub runsReducer : (k : ℕ) (t : Term) (buf : List ℕ) (used budget : ℕ) → TermIn noVars k t buf used → length buf ≤ 16384
+      → ReducerRan k t (length buf) budget (runReducer buf used budget)

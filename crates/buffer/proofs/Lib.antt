@@ -1,0 +1,2 @@
+pub mod LittleEndianLaws
+pub mod SliceLaws

@@ -1,0 +1,12 @@
+pub mod RecordLaws
+pub mod ReadingLaws
+pub mod FixLaws
+pub mod ProgramLaws
+pub mod TermLaws
+pub mod HeaderLaws
+pub mod WordsLaws
+pub mod RowLaws
+pub mod AnswerLaws
+pub mod HeldLaws
+pub mod HoldingLaws
+pub mod RowMeaningLaws

@@ -1,0 +1,99 @@
+-- Laws of a list of rows: the first that applies, and none.
+use Prim.Native.Nat.{ℕ, _≤_}
+use mathlib.Core.Path.{refl, _∙_, _≡_}
+use mathlib.Core.Logic.{inl, inr}
+use mathlib.Core.Bool.{_&&_, Bool, false, not, true, _||_}
+use mathlib.Core.List.{List, [], _∷_}
+use mathlib.Core.Option.{Option, none, some}
+use borrow.Author.Tests.{leb-true}
+use lib.Dec.{leb}
+use native.Mathlib.Omega.{arith}
+use Rattle.rules.proofs.Tests.{and-both, true-false}
+use Rattle.record.specs.Rows.{First, NoRow, Row, firstRow, holds, isNone, orElse, pickRow, row}
+
+-- THE FIRST ROW
+
+-- the numbers of a list of rows are 1 to 10
+abbrev pub numbered : List Row → Bool
+numbered [] = true
+numbered (r ∷ rs) = (leb 1 (r .number) && leb (r .number) 10) && numbered rs
+
+pub first-applies : (n : ℕ) (b : Bool) (more : List Row) → b ≡ true → firstRow (row n b ∷ more) ≡ n
+unfolding firstRow pickRow
+first-applies n b more e = rw e refl
+
+pub first-skips : (n : ℕ) (b : Bool) (more : List Row) → b ≡ false → firstRow (row n b ∷ more) ≡ firstRow more
+unfolding firstRow pickRow
+first-skips n b more e = rw e refl
+
+pub none-first : (rs : List Row) → NoRow rs → firstRow rs ≡ 0
+unfolding firstRow
+none-first [] h = refl
+none-first (r ∷ rs) h = first-skips (r .number) (r .applies) rs (h .0) ∙ none-first rs (h .1)
+
+pub first-first : (rs : List Row) → First rs (firstRow rs)
+unfolding firstRow pickRow
+first-first [] = refl
+first-first (r ∷ rs) = go (r .applies) refl (first-first rs)
+  where
+    go : (b : Bool) → r .applies ≡ b → First rs (firstRow rs) → First (r ∷ rs) (pickRow b (r .number) (firstRow rs))
+    go true e ih = inl (e, refl)
+    go false e ih = inr (e, ih)
+
+-- where the first row that applies has number 0 there is none, and its number is at most 10
+first-zero : (rs : List Row) (n : ℕ) → numbered rs ≡ true → First rs n → n ≡ 0 → NoRow rs
+first-zero [] n h f e = tt
+first-zero (r ∷ rs) n h (inl v) e =
+    let p = and-both (leb 1 (r .number) && leb (r .number) 10) (numbered rs) h in
+    let s = and-both (leb 1 (r .number)) (leb (r .number) 10) (p .0) in
+    absurd (omega (arith, leb-true 1 (r .number) (s .0), v .1))
+first-zero (r ∷ rs) n h (inr v) e = let p = and-both (leb 1 (r .number) && leb (r .number) 10) (numbered rs) h in (v .0, first-zero rs n (p .1) (v .1) e)
+
+pub first-none : (rs : List Row) → numbered rs ≡ true → firstRow rs ≡ 0 → NoRow rs
+first-none rs h e = first-zero rs (firstRow rs) h (first-first rs) e
+
+first-most : (rs : List Row) (n : ℕ) → numbered rs ≡ true → First rs n → n ≤ 10
+first-most [] n h f = omega arith
+first-most (r ∷ rs) n h (inl v) =
+    let p = and-both (leb 1 (r .number) && leb (r .number) 10) (numbered rs) h in
+    let s = and-both (leb 1 (r .number)) (leb (r .number) 10) (p .0) in
+    omega (arith, leb-true (r .number) 10 (s .1), v .1)
+first-most (r ∷ rs) n h (inr v) = first-most rs n (and-both (leb 1 (r .number) && leb (r .number) 10) (numbered rs) h .1) (v .1)
+
+pub first-ten : (rs : List Row) → numbered rs ≡ true → firstRow rs ≤ 10
+first-ten rs h = first-most rs (firstRow rs) h (first-first rs)
+
+-- TESTS
+
+pub or-false : (a b : Bool) → (a || b) ≡ false → (a ≡ false) × (b ≡ false)
+or-false true b e = (e, cc)
+or-false false b e = (refl, e)
+
+pub or-intro : {a b : Bool} → a ≡ false → b ≡ false → (a || b) ≡ false
+or-intro p q = rw (p, q) refl
+
+pub not-intro : {a : Bool} → a ≡ true → not a ≡ false
+not-intro p = rw p refl
+
+-- WHAT AN OPTION HOLDS
+
+pub is-some : {A : Type 0} (o : Option A) → isNone o ≡ false → (a : A) × (o ≡ some a)
+unfolding isNone
+is-some none e = true-false e
+is-some (some a) e = (a, refl)
+
+pub isNone-some : {A : Type 0} (o : Option A) (a : A) → o ≡ some a → isNone o ≡ false
+unfolding isNone
+isNone-some o a e = rw e refl
+
+pub isNone-none : {A : Type 0} (o : Option A) → o ≡ none → isNone o ≡ true
+unfolding isNone
+isNone-none o e = rw e refl
+
+pub holds-some : {A : Type 0} (p : A → Bool) (o : Option A) (a : A) → o ≡ some a → holds p o ≡ p a
+unfolding holds
+holds-some p o a e = rw e refl
+
+pub orElse-some : {A : Type 0} (d : A) (o : Option A) (a : A) → o ≡ some a → orElse d o ≡ a
+unfolding orElse
+orElse-some d o a e = rw e refl

@@ -1,0 +1,53 @@
+-- The forms of the answers (01 "Where an order stops"), and the check of a program and of a term.
+use Prim.Native.Nat.{_-_, suc, zero, ℕ}
+use mathlib.Core.List.{_++_, List, [], _∷_}
+use lib.ListN.{length, replicate}
+use Rattle.record.specs.Rows.{Row, badBuffer, firstRow, kOf, programRows, row, termRows}
+
+-- A record of bytes in a buffer of n bytes: what stands behind it is zero.
+unfoldable pub padded : ℕ → List ℕ → List ℕ
+padded n bytes = bytes ++ replicate (n - length bytes) 0
+
+-- THE CHECKER: number and k
+
+pub record Checked : Type 0 where
+  pub number : ℕ
+  pub k : ℕ
+
+unfoldable pub checkedBy : ℕ → ℕ → Checked
+checkedBy zero k = record { number = 0; k = k }
+checkedBy (suc n) k = record { number = suc n; k = 0 }
+
+abbrev pub checkProgramRows : List ℕ → ℕ → List Row
+checkProgramRows buf used = row 1 (badBuffer buf used) ∷ programRows buf used []
+
+abbrev pub checkTermRows : List ℕ → ℕ → List Row
+checkTermRows buf used = row 1 (badBuffer buf used) ∷ termRows buf used []
+
+unfoldable pub checkProgram : List ℕ → ℕ → Checked
+checkProgram buf used = checkedBy (firstRow (checkProgramRows buf used)) (kOf buf used)
+
+unfoldable pub checkTerm : List ℕ → ℕ → Checked
+checkTerm buf used = checkedBy (firstRow (checkTermRows buf used)) (kOf buf used)
+
+-- A CALL THAT WRITES A BUFFER: number, the new used length, the written buffer afterwards
+
+pub record Wrote : Type 0 where
+  pub number : ℕ
+  pub used : ℕ
+  pub written : List ℕ
+
+-- By the number of the row: the record that answers with zeros behind it, or the buffer as it came.
+unfoldable pub wroteBy : ℕ → List ℕ → List ℕ → Wrote
+wroteBy zero bytes buf = record { number = 0; used = length bytes; written = padded (length buf) bytes }
+wroteBy (suc n) bytes buf = record { number = suc n; used = 0; written = buf }
+
+-- A CALL THAT WRITES A STORE: number, and the store afterwards
+
+pub record Stored : Type 0 where
+  pub number : ℕ
+  pub store : List ℕ
+
+unfoldable pub storedBy : ℕ → List ℕ → List ℕ → Stored
+storedBy zero values store = record { number = 0; store = values }
+storedBy (suc n) values store = record { number = suc n; store = store }

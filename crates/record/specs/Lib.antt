@@ -1,0 +1,10 @@
+pub mod Record
+pub mod Reading
+pub mod Fix
+pub mod Program
+pub mod Term
+pub mod Header
+pub mod Rows
+pub mod Answers
+pub mod Holding
+pub mod RowMeaning

@@ -1,0 +1,133 @@
+-- THE TABLE OF REFUSALS (01 "Where an order stops"): each row as a test of what is lent, and the first that applies.
+use Prim.Native.Nat.{ℕ}
+use mathlib.Core.Path.{_≡_}
+use mathlib.Core.Logic.{_⊎_}
+use mathlib.Core.Bool.{Bool, false, not, true, _||_}
+use mathlib.Core.List.{List, [], _∷_}
+use mathlib.Core.Option.{Option, none, some}
+use lib.Dec.{eqb, ltb}
+use lib.ListN.{length, take}
+use Rattle.rules.specs.FreeVariables.{closed}
+use Rattle.rules.specs.Scope.{blockInRange, inRange, termInRange}
+use Rattle.rules.specs.Syntax.{Block, Term, empty, letAll, letOne, rec, tuple}
+use Rattle.record.specs.Header.{blockIn, contents, kField, kindField, lengthField, termIn}
+
+-- A LIST OF ROWS
+
+-- A row: its number, and whether it applies.
+pub record Row : Type 0 where
+  pub number : ℕ
+  pub applies : Bool
+
+abbrev pub row : ℕ → Bool → Row
+row n b = record { number = n; applies = b }
+
+unfoldable pub pickRow : Bool → ℕ → ℕ → ℕ
+pickRow true n later = n
+pickRow false n later = later
+
+-- The number of the first row that applies; 0 where none does.
+unfoldable pub firstRow : List Row → ℕ
+firstRow [] = 0
+firstRow (r ∷ rs) = pickRow (r .applies) (r .number) (firstRow rs)
+
+-- No row applies.
+abbrev pub NoRow : List Row → Type 0
+NoRow [] = Unit {0}
+NoRow (r ∷ rs) = (r .applies ≡ false) × NoRow rs
+
+-- n is the number of the first row that applies, and 0 where none does: `firstRow` as a fact.
+abbrev pub First : List Row → ℕ → Type 0
+First [] n = n ≡ 0
+First (r ∷ rs) n = ((r .applies ≡ true) × (n ≡ r .number)) ⊎ ((r .applies ≡ false) × First rs n)
+
+-- WHAT IS LENT: the record is the first `used` bytes of the buffer
+
+abbrev pub recordIn : List ℕ → ℕ → List ℕ
+recordIn buf used = take used buf
+
+-- The k that the header gives.
+abbrev pub kOf : List ℕ → ℕ → ℕ
+kOf buf used = kField (recordIn buf used)
+
+-- The block or the term that the record holds, if its bytes are of the grammar.
+abbrev pub blockOf : List ℕ → ℕ → Option Block
+blockOf buf used = blockIn (contents (recordIn buf used))
+
+abbrev pub termOf : List ℕ → ℕ → Option Term
+termOf buf used = termIn (kOf buf used) (contents (recordIn buf used))
+
+unfoldable pub isNone : {A : Type 0} → Option A → Bool
+isNone none = true
+isNone (some a) = false
+
+unfoldable pub holds : {A : Type 0} → (A → Bool) → Option A → Bool
+holds p none = false
+holds p (some a) = p a
+
+unfoldable pub orElse : {A : Type 0} → A → Option A → A
+orElse a none = a
+orElse a (some b) = b
+
+-- The same where row 4 does not apply.
+abbrev pub programOf : List ℕ → ℕ → Block
+programOf buf used = orElse empty (blockOf buf used)
+
+abbrev pub theTermOf : List ℕ → ℕ → Term
+theTermOf buf used = orElse (tuple []) (termOf buf used)
+
+-- THE ROWS
+
+-- 1: a buffer above 16,384 bytes, or used length above its buffer
+unfoldable pub tooLong : List ℕ → Bool
+tooLong buf = ltb 16384 (length buf)
+
+unfoldable pub badBuffer : List ℕ → ℕ → Bool
+badBuffer buf used = tooLong buf || ltb (length buf) used
+
+-- 2: under 8 bytes used, or wrong kind, or length not the used length
+unfoldable pub badHeader : ℕ → List ℕ → ℕ → Bool
+badHeader kind buf used = ltb used 8 || (not (eqb (kindField (recordIn buf used)) kind) || not (eqb (lengthField (recordIn buf used)) used))
+
+-- 3: k not 1 to 16
+unfoldable pub badK : List ℕ → ℕ → Bool
+badK buf used = not (inRange 16 (kOf buf used))
+
+-- 4: bytes outside the grammar
+unfoldable pub badBlock : List ℕ → ℕ → Bool
+badBlock buf used = isNone (blockOf buf used)
+
+unfoldable pub badTerm : List ℕ → ℕ → Bool
+badTerm buf used = isNone (termOf buf used)
+
+-- 5: a variable number not 1 to k
+unfoldable pub blockOutside : List ℕ → ℕ → Bool
+blockOutside buf used = holds (λ t. not (blockInRange (kOf buf used) t)) (blockOf buf used)
+
+unfoldable pub termOutside : List ℕ → ℕ → Bool
+termOutside buf used = holds (λ t. not (termInRange (kOf buf used) t)) (termOf buf used)
+
+-- 6: not k values
+unfoldable pub badStore : List ℕ → ℕ → List ℕ → Bool
+badStore buf used store = not (eqb (length store) (kOf buf used))
+
+-- 7: a free variable
+unfoldable pub openTerm : List ℕ → ℕ → Bool
+openTerm buf used = holds (λ t. not (closed t)) (termOf buf used)
+
+-- 8: not finished
+unfoldable pub finishedTerm : Term → Bool
+finishedTerm (tuple l) = true
+finishedTerm (letOne x s t) = false
+finishedTerm (letAll t u) = false
+finishedTerm (rec x a l t) = false
+
+unfoldable pub unfinished : List ℕ → ℕ → Bool
+unfinished buf used = holds (λ t. not (finishedTerm t)) (termOf buf used)
+
+-- Rows 2 to 5 of a program and of a term, and then more.
+abbrev pub programRows : List ℕ → ℕ → List Row → List Row
+programRows buf used more = row 2 (badHeader 7 buf used) ∷ row 3 (badK buf used) ∷ row 4 (badBlock buf used) ∷ row 5 (blockOutside buf used) ∷ more
+
+abbrev pub termRows : List ℕ → ℕ → List Row → List Row
+termRows buf used more = row 2 (badHeader 40 buf used) ∷ row 3 (badK buf used) ∷ row 4 (badTerm buf used) ∷ row 5 (termOutside buf used) ∷ more

@@ -1,0 +1,102 @@
+-- Laws of the reducer's run: its number, a refusal, what its rows let through, and what an accepted run leaves.
+use Prim.Native.Nat.{suc, zero, ℕ, _≤_}
+use mathlib.Core.Path.{ap, refl, subst, sym, _∙_, _≡_}
+use mathlib.Core.Logic.{Iff·trans}
+use mathlib.Core.List.{List, [], _∷_}
+use lib.ListN.{length}
+use native.Mathlib.Omega.{arith}
+use Rattle.record.specs.Header.{encodeTerm}
+use Rattle.record.specs.Holding.{TermIn}
+use Rattle.record.specs.Rows.{firstRow, openTerm, row}
+use Rattle.record.specs.Term.{same}
+use Rattle.rules.specs.FreeVariables.{Vars, noVars}
+use Rattle.rules.specs.Reduction.{reduce}
+use Rattle.rules.specs.Run.{Ran}
+use Rattle.rules.specs.Sound.{SoundTerm}
+use Rattle.rules.specs.Store.{fitsWord}
+use Rattle.rules.specs.Syntax.{Term}
+use Rattle.run.specs.RunAnswer.{refusal, roomFor}
+use Rattle.record.proofs.AnswerLaws.{length-padded}
+use Rattle.record.proofs.HeldLaws.{good-buffer}
+use Rattle.record.proofs.HoldingLaws.{padded-term, term-is, term-k, term-open, term-passes, term-size, term-used}
+use Rattle.record.proofs.RowLaws.{first-none, none-first, not-intro}
+use Rattle.rules.proofs.FinishedLaws.{reduce-finished}
+use Rattle.rules.proofs.RunLaws.{run-reached}
+use Rattle.rules.proofs.SoundTermLaws.{sound-closed, sound-reductions}
+use Rattle.rules.proofs.StoreLaws.{word-limit}
+use Rattle.run.proofs.RanLaws.{run-answers, run-stays}
+use Rattle.reducer.specs.ReducerRan.{ReducerRan}
+use Rattle.reducer.specs.RunReducer.{reducedTo, reducerBy, reducerRows, reductions, runReducer}
+
+-- NUMBER AND REFUSAL
+
+reducer-by : (m : ℕ) (buf : List ℕ) (used budget : ℕ) → (reducerBy m buf used budget) .answer .number ≡ m
+unfolding reducerBy reducedTo
+reducer-by zero buf used budget = refl
+reducer-by (suc m) buf used budget = refl
+
+pub reducer-number : (buf : List ℕ) (used budget : ℕ) → (runReducer buf used budget) .answer .number ≡ firstRow (reducerRows buf used)
+unfolding runReducer
+reducer-number buf used budget = reducer-by (firstRow (reducerRows buf used)) buf used budget
+
+refused-by : (m : ℕ) (buf : List ℕ) (used budget : ℕ) → (m ≡ 0 → ⊥) → reducerBy m buf used budget ≡ record { answer = refusal m; buf = buf }
+unfolding reducerBy
+refused-by zero buf used budget h = absurd (h refl)
+refused-by (suc m) buf used budget h = refl
+
+pub reducer-refused : (buf : List ℕ) (used budget : ℕ) → (firstRow (reducerRows buf used) ≡ 0 → ⊥)
+    → runReducer buf used budget ≡ record { answer = refusal (firstRow (reducerRows buf used)); buf = buf }
+unfolding runReducer
+reducer-refused buf used budget h = refused-by (firstRow (reducerRows buf used)) buf used budget h
+
+-- WHAT ITS ROWS LET THROUGH, of a buffer that holds a term's record
+
+pub record ReducerTakes (buf : List ℕ) (used n : ℕ) : Type 0 where
+  pub low : length buf ≤ 16384
+  -- the used length is the record's own
+  pub same : n ≡ used
+
+pub reducer-takes : {S : Vars} {k : ℕ} {t : Term} {buf : List ℕ} {used : ℕ} → TermIn S k t buf used → (n : ℕ) → firstRow (reducerRows buf n) ≡ 0 → ReducerTakes buf used n
+reducer-takes {S} {k} {t} {buf} {used} h n e =
+    let r = first-none (reducerRows buf n) refl e in
+    let low = good-buffer buf n (r .0) .low in
+    record { low = low; same = term-used h n low (r .1 .0) }
+
+pub reducer-passes : {k : ℕ} {t : Term} {buf : List ℕ} {used : ℕ} → TermIn noVars k t buf used → length buf ≤ 16384 → firstRow (reducerRows buf used) ≡ 0
+reducer-passes {k} {t} {buf} {used} h l =
+    none-first (reducerRows buf used)
+    (term-passes h l (row 7 (openTerm buf used) ∷ []) (term-open h l ∙ not-intro (sound-closed fitsWord k t (h .sound)), tt))
+
+-- AN ACCEPTED RUN is the rules' run of the term that is lent
+
+module _ {k : ℕ} {t : Term} {buf : List ℕ} {used : ℕ} (h : TermIn noVars k t buf used) (l : length buf ≤ 16384) (budget : ℕ) where
+  abbrev ran : Ran Term
+  ran = reductions k (length buf) budget t
+
+  reducer-is : runReducer buf used budget ≡ reducedTo k (length buf) budget ran
+  unfolding runReducer reducerBy
+  reducer-is = ap (λ (m : ℕ). reducerBy m buf used budget) (reducer-passes h l) ∙ rw (term-is h l, term-k h) refl
+
+  sound-left : SoundTerm fitsWord k noVars (ran .state)
+  sound-left =
+      sound-reductions fitsWord word-limit k (ran .count) t (ran .state) (h .sound)
+      (run-reached (reduce fitsWord) (roomFor (encodeTerm k) (length buf)) budget t)
+
+  roomy : length (encodeTerm k (ran .state)) ≤ length buf
+  roomy = run-stays (reduce fitsWord) (encodeTerm k) (length buf) t budget (omega (arith, term-size h, h .within))
+
+  reduced : ReducerRan k t (length buf) budget (reducedTo k (length buf) budget ran)
+  unfolding reducedTo
+  reduced =
+      let answers = run-answers (reduce fitsWord) (encodeTerm k) (length buf) t budget in
+      record {
+        t = ran .state;
+        ran = answers;
+        bytes = refl;
+        finishes = Iff·trans (answers .finishes) (reduce-finished fitsWord (ran .state));
+        again = padded-term noVars k (ran .state) (length buf) (h .k-low) (h .k-high) sound-left;
+        sameRoom = length-padded (length buf) (encodeTerm k (ran .state)) roomy;
+      }
+
+  pub reducer-ran : ReducerRan k t (length buf) budget (runReducer buf used budget)
+  reducer-ran = subst (ReducerRan k t (length buf) budget) (sym reducer-is) reduced

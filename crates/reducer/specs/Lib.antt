@@ -1,0 +1,2 @@
+pub mod RunReducer
+pub mod ReducerRan

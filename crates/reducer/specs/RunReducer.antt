@@ -1,0 +1,40 @@
+-- The run of the reducer, over bytes (01 "Reducer", "Run orders"): rows 1 to 5 and 7, and the rules' run of the term.
+use Prim.Native.Nat.{suc, zero, ℕ}
+use mathlib.Core.List.{List, [], _∷_}
+use lib.ListN.{length}
+use Rattle.record.specs.Answers.{padded}
+use Rattle.record.specs.Header.{encodeTerm}
+use Rattle.record.specs.Rows.{Row, badBuffer, firstRow, kOf, openTerm, row, termRows, theTermOf}
+use Rattle.rules.specs.Reduction.{reduce}
+use Rattle.rules.specs.Run.{Ran}
+use Rattle.rules.specs.Store.{fitsWord}
+use Rattle.rules.specs.Syntax.{Term}
+use Rattle.run.specs.RunAnswer.{RunAnswer, accepted, refusal, runIn}
+
+-- The answer, and the buffer afterwards.
+pub record ReducerCall : Type 0 where
+  pub answer : RunAnswer
+  pub buf : List ℕ
+
+-- The rules' run from a term of k variables, in a buffer of `room` bytes.
+abbrev pub reductions : ℕ → ℕ → ℕ → Term → Ran Term
+reductions k room budget t = runIn (reduce fitsWord) (encodeTerm k) room budget t
+
+-- What a run leaves: the record of the term left, and zeros behind it.
+unfoldable pub reducedTo : ℕ → ℕ → ℕ → Ran Term → ReducerCall
+reducedTo k room budget r = record {
+  answer = accepted budget r (length (encodeTerm k (r .state)));
+  buf = padded room (encodeTerm k (r .state));
+}
+
+abbrev pub reducerRows : List ℕ → ℕ → List Row
+reducerRows buf used = row 1 (badBuffer buf used) ∷ termRows buf used (row 7 (openTerm buf used) ∷ [])
+
+unfoldable pub reducerBy : ℕ → List ℕ → ℕ → ℕ → ReducerCall
+reducerBy zero buf used budget =
+    reducedTo (kOf buf used) (length buf) budget (reductions (kOf buf used) (length buf) budget (theTermOf buf used))
+reducerBy (suc n) buf used budget = record { answer = refusal (suc n); buf = buf }
+
+-- THE CALL: buffer, used length, budget.
+unfoldable pub runReducer : List ℕ → ℕ → ℕ → ReducerCall
+runReducer buf used budget = reducerBy (firstRow (reducerRows buf used)) buf used budget

@@ -1,0 +1,16 @@
+pub mod Tests
+pub mod StoreLaws
+pub mod SubstitutionLaws
+pub mod ScopeLaws
+pub mod FreeVariablesLaws
+pub mod IterateLaws
+pub mod LockStep
+pub mod ReadBackLaws
+pub mod FinishedLaws
+pub mod SoundConfigLaws
+pub mod SoundTermLaws
+pub mod RunLaws
+pub mod OutcomeLaws
+pub mod PlayLaws
+pub mod RulesLaws
+pub mod OverLaws

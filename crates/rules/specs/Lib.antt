@@ -1,0 +1,13 @@
+pub mod Syntax
+pub mod Store
+pub mod Translation
+pub mod Substitution
+pub mod Step
+pub mod Reduction
+pub mod Rules
+pub mod ReadBack
+pub mod Scope
+pub mod FreeVariables
+pub mod Sound
+pub mod Run
+pub mod Play

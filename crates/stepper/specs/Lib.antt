@@ -1,0 +1,2 @@
+pub mod RunStepper
+pub mod StepperRan

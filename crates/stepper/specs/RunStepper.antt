@@ -1,0 +1,50 @@
+-- The run of the stepper, over bytes (01 "Stepper", "Run orders"): rows 1 to 6, and the rules' run of the configuration.
+use Prim.Native.Nat.{suc, zero, ℕ}
+use mathlib.Core.List.{List, [], _∷_}
+use lib.ListN.{length}
+use Rattle.record.specs.Answers.{padded}
+use Rattle.record.specs.Header.{encodeProgram}
+use Rattle.record.specs.Rows.{Row, badBuffer, badStore, firstRow, kOf, programOf, programRows, row}
+use Rattle.rules.specs.Run.{Ran}
+use Rattle.rules.specs.Step.{step}
+use Rattle.rules.specs.Store.{fitsWord}
+use Rattle.rules.specs.Syntax.{Config}
+use Rattle.run.specs.RunAnswer.{RunAnswer, accepted, refusal, runIn}
+
+-- The answer, and the buffer and the store afterwards.
+pub record StepperCall : Type 0 where
+  pub answer : RunAnswer
+  pub buf : List ℕ
+  pub store : List ℕ
+
+-- The record of a configuration of k variables: its program's. The store is lent beside it.
+abbrev pub configBytes : ℕ → Config → List ℕ
+configBytes k c = encodeProgram k (c .block)
+
+-- The configuration that is lent.
+abbrev pub configOf : List ℕ → ℕ → List ℕ → Config
+configOf buf used store = record { block = programOf buf used; store = store }
+
+-- The rules' run from a configuration, in a buffer of `room` bytes.
+abbrev pub steps : ℕ → ℕ → ℕ → Config → Ran Config
+steps k room budget c = runIn (step fitsWord) (configBytes k) room budget c
+
+-- What a run leaves: the record of the configuration left, zeros behind it, and its store.
+unfoldable pub steppedTo : ℕ → ℕ → ℕ → Ran Config → StepperCall
+steppedTo k room budget r = record {
+  answer = accepted budget r (length (configBytes k (r .state)));
+  buf = padded room (configBytes k (r .state));
+  store = r .state .store;
+}
+
+abbrev pub stepperRows : List ℕ → ℕ → List ℕ → List Row
+stepperRows buf used store = row 1 (badBuffer buf used) ∷ programRows buf used (row 6 (badStore buf used store) ∷ [])
+
+unfoldable pub stepperBy : ℕ → List ℕ → ℕ → List ℕ → ℕ → StepperCall
+stepperBy zero buf used store budget =
+    steppedTo (kOf buf used) (length buf) budget (steps (kOf buf used) (length buf) budget (configOf buf used store))
+stepperBy (suc n) buf used store budget = record { answer = refusal (suc n); buf = buf; store = store }
+
+-- THE CALL: buffer, used length, store, budget.
+unfoldable pub runStepper : List ℕ → ℕ → List ℕ → ℕ → StepperCall
+runStepper buf used store budget = stepperBy (firstRow (stepperRows buf used store)) buf used store budget

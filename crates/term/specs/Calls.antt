@@ -1,0 +1,78 @@
+-- Translate, read back, substitute and result, over bytes (01 "Translation and read-back", "Filling", "Result and weighing").
+use Prim.Native.Nat.{ℕ}
+use mathlib.Core.Bool.{Bool, _||_}
+use mathlib.Core.List.{List, [], map, _∷_}
+use mathlib.Core.Option.{Option}
+use lib.Dec.{ltb}
+use lib.ListN.{length}
+use Rattle.record.specs.Answers.{Stored, Wrote, storedBy, wroteBy}
+use Rattle.record.specs.Header.{encodeProgram, encodeTerm}
+use Rattle.record.specs.Rows.{Row, badBuffer, badStore, firstRow, isNone, kOf, openTerm, orElse, programOf, programRows, row, termRows, theTermOf, tooLong, unfinished}
+use Rattle.rules.specs.ReadBack.{readBack}
+use Rattle.rules.specs.Reduction.{valueOf}
+use Rattle.rules.specs.Substitution.{fromStore, substitute}
+use Rattle.rules.specs.Syntax.{Block, Term, empty, letAll, letOne, rec, tuple}
+use Rattle.rules.specs.Translation.{translate}
+
+-- TRANSLATE: rows 1 to 5 and 10. Row 1 looks at both buffers.
+
+-- Row 10: the answer is longer than the output buffer.
+unfoldable pub tooShort : List ℕ → List ℕ → Bool
+tooShort out answer = ltb (length out) (length answer)
+
+-- The record that answers.
+abbrev pub translated : List ℕ → ℕ → List ℕ
+translated src used = encodeTerm (kOf src used) (translate (kOf src used) (programOf src used))
+
+abbrev pub translateRows : List ℕ → ℕ → List ℕ → List Row
+translateRows src used out = row 1 (badBuffer src used || tooLong out) ∷ programRows src used (row 10 (tooShort out (translated src used)) ∷ [])
+
+unfoldable pub translateCall : List ℕ → ℕ → List ℕ → Wrote
+translateCall src used out = wroteBy (firstRow (translateRows src used out)) (translated src used) out
+
+-- READ BACK: rows 1 to 5, 9 and 10
+
+-- The program that the term is the translation of, if there is one.
+abbrev pub sourceOf : List ℕ → ℕ → Option Block
+sourceOf src used = readBack (kOf src used) (theTermOf src used)
+
+-- Row 9: no program translates to it.
+unfoldable pub noSource : List ℕ → ℕ → Bool
+noSource src used = isNone (sourceOf src used)
+
+abbrev pub sourceBytes : List ℕ → ℕ → List ℕ
+sourceBytes src used = encodeProgram (kOf src used) (orElse empty (sourceOf src used))
+
+abbrev pub readBackRows : List ℕ → ℕ → List ℕ → List Row
+readBackRows src used out =
+    row 1 (badBuffer src used || tooLong out) ∷ termRows src used (row 9 (noSource src used) ∷ row 10 (tooShort out (sourceBytes src used)) ∷ [])
+
+unfoldable pub readBackCall : List ℕ → ℕ → List ℕ → Wrote
+readBackCall src used out = wroteBy (firstRow (readBackRows src used out)) (sourceBytes src used) out
+
+-- SUBSTITUTE (01's filling): rows 1 to 6, in place
+
+abbrev pub substituted : List ℕ → ℕ → List ℕ → List ℕ
+substituted buf used store = encodeTerm (kOf buf used) (substitute (fromStore store) (theTermOf buf used))
+
+abbrev pub substituteRows : List ℕ → ℕ → List ℕ → List Row
+substituteRows buf used store = row 1 (badBuffer buf used) ∷ termRows buf used (row 6 (badStore buf used store) ∷ [])
+
+unfoldable pub substituteCall : List ℕ → ℕ → List ℕ → Wrote
+substituteCall buf used store = wroteBy (firstRow (substituteRows buf used store)) (substituted buf used store) buf
+
+-- RESULT: rows 1 to 8
+
+-- The numerals of a finished term.
+unfoldable pub numerals : Term → List ℕ
+numerals (tuple l) = map valueOf l
+numerals (letOne x s t) = []
+numerals (letAll t u) = []
+numerals (rec x a l t) = []
+
+abbrev pub resultRows : List ℕ → ℕ → List ℕ → List Row
+resultRows buf used store =
+    row 1 (badBuffer buf used) ∷ termRows buf used (row 6 (badStore buf used store) ∷ row 7 (openTerm buf used) ∷ row 8 (unfinished buf used) ∷ [])
+
+unfoldable pub resultCall : List ℕ → ℕ → List ℕ → Stored
+resultCall buf used store = storedBy (firstRow (resultRows buf used store)) (numerals (theTermOf buf used)) store
