@@ -1,6 +1,7 @@
 -- Laws of values and stores.
-use Prim.Native.Nat.{_<_, suc, zero, ℕ}
-use mathlib.Core.Path.{refl, _≡_}
+use Prim.Native.Nat.{_<_, suc, zero, ℕ, _≤_}
+use mathlib.Core.Path.{ap, refl, _∙_, _≡_}
+use mathlib.Core.Logic.{_↔_}
 use mathlib.Core.Bool.{Bool, true}
 use borrow.Author.Tests.{lt-ltb, ltb-true}
 use native.Mathlib.Omega.{arith}
@@ -16,6 +17,10 @@ pub below-fitsWord : (n : ℕ) → n < wordLimit → fitsWord n ≡ true
 unfolding fitsWord
 below-fitsWord n h = lt-ltb n wordLimit h
 
+-- values run from 0 to 4,294,967,295
+pub fitsWord-iff : (n : ℕ) → (fitsWord n ≡ true) ↔ (n ≤ 4294967295)
+fitsWord-iff n = ((λ e. omega (arith, fitsWord-below n e)), (λ h. below-fitsWord n (omega arith)))
+
 pub word-limit : Limit fitsWord
 word-limit = record {
   zeroPasses = below-fitsWord 0 (omega arith);
@@ -25,8 +30,17 @@ word-limit = record {
 pub no-limit : Limit noLimit
 no-limit = record { zeroPasses = refl; belowPasses = λ n e. refl }
 
+-- MINUS ONE: 0 minus one is 0
+
+pub minusOne-zero : minusOne 0 ≡ 0
+unfolding minusOne
+minusOne-zero = refl
+
+pub minusOne-suc : (n : ℕ) → minusOne (suc n) ≡ n
+unfolding minusOne
+minusOne-suc n = refl
+
 -- minus one of a value that passes passes
 pub minusOne-passes : (ok : ℕ → Bool) → Limit ok → (n : ℕ) → ok n ≡ true → ok (minusOne n) ≡ true
-unfolding minusOne
-minusOne-passes ok limit zero h = h
-minusOne-passes ok limit (suc n) h = limit .belowPasses n h
+minusOne-passes ok limit zero h = ap ok minusOne-zero ∙ h
+minusOne-passes ok limit (suc n) h = ap ok (minusOne-suc n) ∙ limit .belowPasses n h

@@ -1,6 +1,6 @@
 -- A run in a buffer answers as demand 2 says, and stays in its buffer.
-use Prim.Native.Nat.{_<_, ℕ, _≤_}
-use mathlib.Core.Path.{refl, _≡_}
+use Prim.Native.Nat.{_<_, suc, zero, ℕ, _≤_}
+use mathlib.Core.Path.{ap, refl, sym, _∙_, _≡_}
 use mathlib.Core.Logic.{Iff·trans, _↔_}
 use mathlib.Core.Bool.{false, true}
 use mathlib.Core.List.{List}
@@ -9,13 +9,38 @@ use borrow.Author.Tests.{le-leb, leb-true}
 use lib.Dec.{leb}
 use lib.ListN.{length}
 use native.Mathlib.Omega.{arith}
-use Rattle.rules.specs.Run.{Further, iterate}
+use Rattle.rules.specs.Run.{Further, Outcome, isFinished, isOver, iterate, noRoom, refused, spent}
 use Rattle.rules.specs.Syntax.{Answer, next}
 use Rattle.rules.proofs.OutcomeLaws.{run-reads, run-spent}
 use Rattle.rules.proofs.RunLaws.{Makes, run-le, run-makes, run-reached, run-room}
 use Rattle.rules.proofs.Tests.{iff-beside, iff-under, leb-iff, leb-not}
 use Rattle.run.specs.RanFrom.{FurtherIn, RanFrom}
-use Rattle.run.specs.RunAnswer.{accepted, roomFor, runIn}
+use Rattle.run.specs.RunAnswer.{accepted, outcomeNumber, refusal, roomFor, runIn}
+
+-- A REFUSED RUN gives its number, the outcome refused, and 0 for everything else
+pub refusal-gives : (n : ℕ) → ((refusal n) .number ≡ n) × ((refusal n) .outcome ≡ refused) × ((refusal n) .steps ≡ 0) × ((refusal n) .left ≡ 0) × ((refusal n) .used ≡ 0)
+refusal-gives n = (refl, refl, refl, refl, refl)
+
+-- THE NUMBERS OF THE OUTCOMES tell them apart
+outcomeFrom : ℕ → Outcome
+outcomeFrom zero = refused
+outcomeFrom (suc zero) = isFinished
+outcomeFrom (suc (suc zero)) = isOver
+outcomeFrom (suc (suc (suc zero))) = noRoom
+outcomeFrom (suc (suc (suc (suc n)))) = spent
+
+from-number : (o : Outcome) → outcomeFrom (outcomeNumber o) ≡ o
+unfolding outcomeFrom outcomeNumber
+from-number isFinished = refl
+from-number isOver = refl
+from-number noRoom = refl
+from-number spent = refl
+from-number refused = refl
+
+pub outcomeNumber-injective : (a b : Outcome) → outcomeNumber a ≡ outcomeNumber b → a ≡ b
+outcomeNumber-injective a b e = sym (from-number a) ∙ ap outcomeFrom e ∙ from-number b
+
+-- A RUN IN A BUFFER
 
 module _ {A : Type 0} (f : A → Answer A) (bytes : A → List ℕ) (room : ℕ) where
   pub room-fits : (a : A) → roomFor bytes room a ≡ true → length (bytes a) ≤ room

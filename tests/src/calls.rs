@@ -1,0 +1,248 @@
+//! Every call over bytes: the nine functions of DESIGN.md, section 6.
+//!
+//! Each one tests its rows in 01's order before it changes anything. A refusal gives its number
+//! and 0 for everything else, and leaves every lent slice as it came. After an accepted call the
+//! bytes of a written buffer past the new used length are zero (01, "Records").
+
+use crate::check::{self, Refusal, BUFFER_LIMIT};
+use crate::codec::Record;
+use crate::read_back;
+use crate::run::reducer::finished_values;
+use crate::run::stepper::Config;
+use crate::run::{self, Outcome};
+use crate::substitute::{closed, substitute as substitute_in, values_of};
+use crate::translate;
+use crate::tree::{Program, Term, TermRecord};
+
+#[derive(Clone, Copy, Debug, Default, PartialEq, Eq)]
+pub struct Checked {
+    pub number: u32,
+    pub k: u32,
+}
+
+#[derive(Clone, Copy, Debug, Default, PartialEq, Eq)]
+pub struct Written {
+    pub number: u32,
+    pub used: u32,
+}
+
+/// `outcome` is the number of an [`Outcome`]; `left` is the budget less the steps.
+#[derive(Clone, Copy, Debug, Default, PartialEq, Eq)]
+pub struct Ran {
+    pub number: u32,
+    pub outcome: u32,
+    pub steps: u32,
+    pub left: u32,
+    pub used: u32,
+}
+
+// A refusal: its number, and 0 for everything else.
+
+impl Checked {
+    pub fn refused(number: u32) -> Checked {
+        Checked { number, k: 0 }
+    }
+}
+
+impl Written {
+    pub fn refused(number: u32) -> Written {
+        Written { number, used: 0 }
+    }
+}
+
+impl Ran {
+    /// The outcome is `refused`, and the budget is not handed back.
+    pub fn refused(number: u32) -> Ran {
+        Ran {
+            number,
+            outcome: Outcome::Refused.number(),
+            ..Ran::default()
+        }
+    }
+}
+
+// Rows 1–5.
+
+pub fn check_program(buf: &[u8], used: usize) -> Checked {
+    checked(check::lent::<Program>(buf, used))
+}
+
+pub fn check_term(buf: &[u8], used: usize) -> Checked {
+    checked(check::lent::<TermRecord>(buf, used))
+}
+
+fn checked<R: Record>(answer: Result<R, Refusal>) -> Checked {
+    match answer {
+        Ok(tree) => Checked {
+            number: 0,
+            k: tree.k(),
+        },
+        Err(refusal) => Checked::refused(refusal.number()),
+    }
+}
+
+// Rows 1–5, 10.
+
+pub fn translate(src: &[u8], used: usize, out: &mut [u8]) -> Written {
+    written(translation(src, used, out.len()), out)
+}
+
+fn translation(src: &[u8], used: usize, room: usize) -> Result<Vec<u8>, Refusal> {
+    let program: Program = source(src, used, room)?;
+    fitting(&translate::translate(&program), room)
+}
+
+// Rows 1–5, 9, 10.
+
+pub fn read_back(src: &[u8], used: usize, out: &mut [u8]) -> Written {
+    written(program_of(src, used, out.len()), out)
+}
+
+fn program_of(src: &[u8], used: usize, room: usize) -> Result<Vec<u8>, Refusal> {
+    let term: TermRecord = source(src, used, room)?;
+    let program = read_back::read_back(&term).ok_or(Refusal::NoProgram)?;
+    fitting(&program, room)
+}
+
+/// Row 1 for both buffers, the output too, comes before row 2 for the source.
+fn source<R: Record>(src: &[u8], used: usize, room: usize) -> Result<R, Refusal> {
+    check::buffer(room, 0)?;
+    check::lent(src, used)
+}
+
+/// Row 10. The length is measured before anything is encoded: it may not fit in 16 bits.
+fn fitting<R: Record>(answer: &R, room: usize) -> Result<Vec<u8>, Refusal> {
+    if answer.encoded_len() > room {
+        return Err(Refusal::Output);
+    }
+    Ok(answer.encode())
+}
+
+// Rows 1–6.
+
+pub fn substitute(buf: &mut [u8], used: usize, store: &[u32]) -> Written {
+    written(substituted(buf, used, store), buf)
+}
+
+fn substituted(buf: &[u8], used: usize, store: &[u32]) -> Result<Vec<u8>, Refusal> {
+    let mut record: TermRecord = check::lent(buf, used)?;
+    values_for(record.k, store)?;
+    substitute_in(&mut record.term, &values_of(store));
+    Ok(record.encode())
+}
+
+// Rows 1–6.
+
+pub fn run_stepper(buf: &mut [u8], used: usize, store: &mut [u32], budget: u32) -> Ran {
+    let mut config = match configuration(buf, used, store) {
+        Ok(config) => config,
+        Err(refusal) => return Ran::refused(refusal.number()),
+    };
+    let end = run::run(&mut config, buf.len(), budget);
+    store.copy_from_slice(&config.store);
+    ran(end, budget, put(buf, &config.program.encode()))
+}
+
+fn configuration(buf: &[u8], used: usize, store: &[u32]) -> Result<Config, Refusal> {
+    let program: Program = check::lent(buf, used)?;
+    values_for(program.k, store)?;
+    let store = store.to_vec();
+    Ok(Config { program, store })
+}
+
+// Rows 1–5, 7.
+
+pub fn run_reducer(buf: &mut [u8], used: usize, budget: u32) -> Ran {
+    let mut record = match closed_term(buf, used) {
+        Ok(record) => record,
+        Err(refusal) => return Ran::refused(refusal.number()),
+    };
+    let end = run::run(&mut record, buf.len(), budget);
+    ran(end, budget, put(buf, &record.encode()))
+}
+
+fn closed_term(buf: &[u8], used: usize) -> Result<TermRecord, Refusal> {
+    let record: TermRecord = check::lent(buf, used)?;
+    without_free_variable(&record.term)?;
+    Ok(record)
+}
+
+// Rows 1–8: the store before the free variable, and that before "not finished".
+
+pub fn result(buf: &[u8], used: usize, store: &mut [u32]) -> u32 {
+    match numerals(buf, used, store.len()) {
+        Ok(values) => {
+            store.copy_from_slice(&values);
+            0
+        }
+        Err(refusal) => refusal.number(),
+    }
+}
+
+fn numerals(buf: &[u8], used: usize, places: usize) -> Result<Vec<u32>, Refusal> {
+    let record: TermRecord = check::lent(buf, used)?;
+    if places != record.k as usize {
+        return Err(Refusal::Store);
+    }
+    without_free_variable(&record.term)?;
+    finished_values(&record.term).ok_or(Refusal::NotFinished)
+}
+
+// Row 6 alone.
+
+/// Variable 1 gets the net weight in units of 20 kg, rounded down, and every other variable 0
+/// (01, "Result and weighing").
+pub fn weigh(gross: u32, tare: u32, store: &mut [u32]) -> u32 {
+    if !(1..=16).contains(&store.len()) {
+        return Refusal::Store.number();
+    }
+    store.fill(0);
+    store[0] = gross.saturating_sub(tare) / 20;
+    0
+}
+
+// Shared.
+
+fn values_for(k: u32, store: &[u32]) -> Result<(), Refusal> {
+    if store.len() != k as usize {
+        return Err(Refusal::Store);
+    }
+    Ok(())
+}
+
+fn without_free_variable(term: &Term) -> Result<(), Refusal> {
+    if !closed(term) {
+        return Err(Refusal::FreeVariable);
+    }
+    Ok(())
+}
+
+/// The record at the front, zeros behind it to the end of the lent buffer; gives the used length.
+fn put(buf: &mut [u8], record: &[u8]) -> u32 {
+    let (front, behind) = buf.split_at_mut(record.len());
+    front.copy_from_slice(record);
+    behind.fill(0);
+    // A lent buffer is at most 16,384 bytes, so no length is cut here.
+    debug_assert!(record.len() <= BUFFER_LIMIT);
+    record.len() as u32
+}
+
+fn written(answer: Result<Vec<u8>, Refusal>, out: &mut [u8]) -> Written {
+    match answer {
+        Ok(record) => Written {
+            number: 0,
+            used: put(out, &record),
+        },
+        Err(refusal) => Written::refused(refusal.number()),
+    }
+}
+
+fn ran((outcome, steps): (Outcome, u32), budget: u32, used: u32) -> Ran {
+    Ran {
+        number: 0,
+        outcome: outcome.number(),
+        steps,
+        left: budget - steps,
+        used,
+    }
+}

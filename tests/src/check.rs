@@ -1,0 +1,83 @@
+//! Rows 1 to 5 of 01, "Where an order stops", and the numbers of all ten.
+
+use crate::codec::Record;
+
+/// Why a call is refused; the discriminant is 01's number.
+#[derive(Clone, Copy, Debug, PartialEq, Eq)]
+pub enum Refusal {
+    /// A buffer above 16,384 bytes, or a used length above its buffer.
+    Buffer = 1,
+    /// Under 8 bytes used, or the wrong kind, or a length that is not the used length.
+    Header = 2,
+    /// k is not 1 to 16.
+    K = 3,
+    /// Bytes outside the grammar, variable numbers disregarded.
+    Grammar = 4,
+    /// A variable number that is not 1 to k.
+    Variable = 5,
+    /// A store of other than k values (weighing: of other than 1 to 16).
+    Store = 6,
+    /// A free variable.
+    FreeVariable = 7,
+    /// Not finished.
+    NotFinished = 8,
+    /// No program translates to it.
+    NoProgram = 9,
+    /// The answer is longer than the output buffer.
+    Output = 10,
+}
+
+impl Refusal {
+    pub fn number(self) -> u32 {
+        self as u32
+    }
+}
+
+/// The largest buffer that may be lent (01, "Records").
+pub const BUFFER_LIMIT: usize = 16_384;
+
+/// A header: length, kind and k.
+const HEADER: usize = 8;
+
+/// Row 1 for one lent buffer. A buffer that only takes output counts as used to 0 bytes.
+pub fn buffer(len: usize, used: usize) -> Result<(), Refusal> {
+    if len > BUFFER_LIMIT || used > len {
+        return Err(Refusal::Buffer);
+    }
+    Ok(())
+}
+
+/// Rows 2 to 5, in order, for the used bytes of a buffer. Which of the two records is asked for,
+/// a program or a term, is the caller's choice of `R`.
+///
+/// Row 4 is asked of the whole record before row 5 is asked of any part, because decoding takes
+/// every variable number and the numbers are looked at in the finished tree.
+pub fn record<R: Record>(used: &[u8]) -> Result<R, Refusal> {
+    let k = header(used, R::KIND)?;
+    if !(1..=16).contains(&k) {
+        return Err(Refusal::K);
+    }
+    let tree = R::decode(used).ok_or(Refusal::Grammar)?;
+    let sound = |variable: &u32| (1..=k).contains(variable);
+    if !tree.variables().iter().all(sound) {
+        return Err(Refusal::Variable);
+    }
+    Ok(tree)
+}
+
+/// Row 2; gives the header's k.
+fn header(used: &[u8], kind: u16) -> Result<u32, Refusal> {
+    let head: &[u8; HEADER] = used.first_chunk().ok_or(Refusal::Header)?;
+    let [l0, l1, k0, k1, word @ ..] = *head;
+    let len = usize::from(u16::from_le_bytes([l0, l1]));
+    if u16::from_le_bytes([k0, k1]) != kind || len != used.len() {
+        return Err(Refusal::Header);
+    }
+    Ok(u32::from_le_bytes(word))
+}
+
+/// Rows 1 to 5 for a lent buffer: the tree in it, or the first row that applies.
+pub fn lent<R: Record>(lent: &[u8], used: usize) -> Result<R, Refusal> {
+    buffer(lent.len(), used)?;
+    record(&lent[..used])
+}

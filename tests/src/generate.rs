@@ -1,0 +1,15 @@
+//! Seeded generators: sound programs and terms, damaged records, stores, budgets, lists of runs.
+
+pub mod damage;
+pub mod programs;
+pub mod raw;
+pub mod runs;
+pub mod terms;
+
+/// A buffer of `len` bytes with the record in front. What is behind it is not zero: it must not
+/// matter on entry, and an accepted call that writes the buffer must have made it so.
+pub fn lend(record: &[u8], len: usize) -> Vec<u8> {
+    let mut buffer = vec![0xA5; len];
+    buffer[..record.len()].copy_from_slice(record);
+    buffer
+}

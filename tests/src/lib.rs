@@ -1,0 +1,21 @@
+//! The other program: document 01 (`01-scope.md`) implemented once more, on trees.
+//!
+//! It is written from 01 alone and takes the plainest road everywhere: bytes are decoded into a
+//! tree, the rule is applied to the tree, and the tree is encoded again. The proved library works
+//! on the bytes in place; where the two differ on any input, one of them is wrong.
+//!
+//! "01" in a comment is that document, followed by the heading the rule stands under.
+
+pub mod calls;
+pub mod check;
+pub mod codec;
+pub mod examples;
+pub mod generate;
+pub mod line;
+
+pub mod random;
+pub mod read_back;
+pub mod run;
+pub mod substitute;
+pub mod translate;
+pub mod tree;

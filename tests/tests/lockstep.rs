@@ -1,0 +1,272 @@
+//! Lock step by trial (01, "Run orders"): lists of runs in any mixture of the two engines, refused
+//! ones among them, and the two states compared wherever the totals agree.
+
+use other::calls::{check_program, run_reducer, run_stepper, substitute, translate, Ran};
+use other::codec::{hex, Record};
+use other::examples::examples;
+use other::generate::lend;
+use other::generate::programs::store;
+use other::generate::runs::{ends_within, runs, Budget, Engine, Run};
+use other::generate::terms::{translation, SHORTEST};
+use other::random::{cases, Counts, Random};
+use other::run::reducer::finished_values;
+use other::run::stepper::Config;
+use other::run::{next_state, Answer, Machine};
+use other::tree::{Program, TermRecord};
+
+/// What belongs to one engine: its buffer as its last run left it, the used length that its last
+/// accepted run gave, and the steps that its runs returned.
+struct Side {
+    buffer: Vec<u8>,
+    used: usize,
+    total: u64,
+}
+
+struct World {
+    k: u32,
+    stepper: Side,
+    store: Vec<u32>,
+    reducer: Side,
+    seen: Seen,
+}
+
+/// What the comparisons came upon, so that a trial that compares nothing is noticed.
+#[derive(Default)]
+struct Seen {
+    met: u32,
+    met_later: u32,
+    finished: u32,
+    over: u32,
+    refused: u32,
+}
+
+impl Side {
+    fn take(&mut self, ran: &Ran) {
+        self.total += u64::from(ran.steps);
+        if ran.number == 0 {
+            self.used = ran.used as usize;
+        }
+    }
+}
+
+impl World {
+    /// The start: the stepper has the program and the store, the reducer the program's translation
+    /// with that store substituted.
+    fn start(config: &Config, room: usize, other_room: usize) -> World {
+        let (program, term) = (config.program.encode(), config.term().encode());
+        let side = |record: &[u8], room| Side {
+            buffer: lend(record, room),
+            used: record.len(),
+            total: 0,
+        };
+        World {
+            k: config.program.k,
+            stepper: side(&program, room),
+            store: config.store.clone(),
+            reducer: side(&term, other_room),
+            seen: Seen::default(),
+        }
+    }
+
+    fn play(&mut self, run: &Run) {
+        match run.engine {
+            Engine::Stepper => self.play_stepper(run),
+            Engine::Reducer => self.play_reducer(run),
+        }
+    }
+
+    fn play_stepper(&mut self, run: &Run) {
+        let budget = budget(run, &self.stepper, &self.reducer);
+        let used = run.used.unwrap_or(self.stepper.used);
+        let mut store = run.store.clone().unwrap_or(self.store.clone());
+        let before = (self.stepper.buffer.clone(), store.clone());
+        let ran = run_stepper(&mut self.stepper.buffer, used, &mut store, budget);
+        let wrong = used != self.stepper.used || store.len() != self.k as usize;
+        if wrong {
+            let after = (self.stepper.buffer.clone(), store.clone());
+            self.refused(&ran, before == after);
+        }
+        assert_eq!(ran.number != 0, wrong);
+        if run.store.is_none() {
+            self.store = store;
+        }
+        self.stepper.take(&ran);
+    }
+
+    fn play_reducer(&mut self, run: &Run) {
+        let budget = budget(run, &self.reducer, &self.stepper);
+        let used = run.used.unwrap_or(self.reducer.used);
+        let before = self.reducer.buffer.clone();
+        let ran = run_reducer(&mut self.reducer.buffer, used, budget);
+        let wrong = used != self.reducer.used;
+        if wrong {
+            let unchanged = before == self.reducer.buffer;
+            self.refused(&ran, unchanged);
+        }
+        assert_eq!(ran.number != 0, wrong);
+        self.reducer.take(&ran);
+    }
+
+    /// A refused run returns its number and zeros, and changes nothing.
+    fn refused(&mut self, ran: &Ran, unchanged: bool) {
+        assert_eq!(*ran, Ran::refused(ran.number));
+        assert!(unchanged);
+        self.seen.refused += 1;
+    }
+
+    /// Where the totals agree: the term is byte for byte the translation of the configuration with
+    /// its store; both are finished or neither, and then show the same values; both stand before
+    /// too large a value or neither.
+    fn compare(&mut self) {
+        if self.stepper.total != self.reducer.total {
+            return;
+        }
+        let program = Program::decode(&self.stepper.buffer[..self.stepper.used]);
+        let config = Config {
+            program: program.expect("the configuration is a program"),
+            store: self.store.clone(),
+        };
+        let bytes = &self.reducer.buffer[..self.reducer.used];
+        let term = TermRecord::decode(bytes).expect("the reducer's state is a term");
+        let wanted = config.term();
+        assert_eq!(wanted.encoded_len(), bytes.len());
+        assert_eq!(hex(&wanted.encode()), hex(bytes));
+        let (stands, other_stands) = (standing(&config), standing(&term));
+        assert_eq!(stands, other_stands);
+        if stands == Answer::Finished {
+            assert_eq!(finished_values(&term.term), Some(self.store.clone()));
+            self.seen.finished += 1;
+        }
+        self.seen.met += 1;
+        self.seen.met_later += u32::from(self.stepper.total > 0);
+        self.seen.over += u32::from(stands == Answer::Over);
+    }
+}
+
+fn budget(run: &Run, own: &Side, other: &Side) -> u32 {
+    match run.budget {
+        Budget::Exactly(budget) => budget,
+        Budget::CatchUp => other.total.saturating_sub(own.total) as u32,
+    }
+}
+
+fn standing<M: Machine>(machine: &M) -> Answer<()> {
+    match next_state(machine) {
+        Answer::Finished => Answer::Finished,
+        Answer::Over => Answer::Over,
+        Answer::Next(_) => Answer::Next(()),
+    }
+}
+
+/// A generated program with a store, and a world with generated room for each engine.
+fn generated(random: &mut Random) -> (World, Vec<Run>) {
+    let most = *random.pick(&[300, 300, 300, 300, 4_000]);
+    let limit = SHORTEST + random.below(most);
+    let (program, _) = translation(random, limit);
+    let store = store(random, program.k);
+    let config = Config { program, store };
+    let extra = *random.pick(&[1, 100, 400, 1_500]);
+    let room = config.state_len() + random.below(extra);
+    let term = config.term();
+    let other_room = term.state_len() + random.below(4 * extra);
+    let ends = ends_within(&config, room, 3_000) && ends_within(&term, other_room, 3_000);
+    let list = runs(random, config.program.k, ends);
+    (World::start(&config, room, other_room), list)
+}
+
+#[test]
+fn totals_that_agree_have_states_that_agree() {
+    let seen = Counts::default();
+    cases(8_000, |random| {
+        let (mut world, list) = generated(random);
+        // The empty list is a list as well: both totals are 0.
+        world.compare();
+        for run in &list {
+            world.play(run);
+            world.compare();
+        }
+        let Seen {
+            met,
+            met_later,
+            finished,
+            over,
+            refused,
+        } = world.seen;
+        for (sort, count) in [met, met_later, finished, over, refused].iter().enumerate() {
+            seen.add(sort, *count);
+        }
+    });
+    seen.assert_at_least([8_000, 3_000, 2_000, 100, 2_000]);
+}
+
+/// Step by step through the examples, from the real calls of check, translate and substitute: one
+/// step of each engine at a time, compared at every total.
+#[test]
+fn the_examples_in_single_steps() {
+    for example in examples() {
+        let config = lend(&example.program.encode(), 1_000);
+        let length = example.program.encoded_len();
+        let k = check_program(&config, length).k;
+        let mut term = vec![0xA5; 1_000];
+        let written = translate(&config, length, &mut term);
+        let used = written.used as usize;
+        assert_eq!(substitute(&mut term, used, &example.store).number, 0);
+        let side = |buffer, used| Side {
+            buffer,
+            used,
+            total: 0,
+        };
+        let mut world = World {
+            k,
+            stepper: side(config, length),
+            store: example.store.clone(),
+            reducer: side(term, used),
+            seen: Seen::default(),
+        };
+        for _ in 0..=example.steps {
+            world.compare();
+            world.play(&single(Engine::Stepper));
+            world.play(&single(Engine::Reducer));
+        }
+        assert_eq!(world.seen.met, example.steps + 1, "{}", example.name);
+        assert_eq!(
+            world.stepper.total,
+            u64::from(example.steps),
+            "{}",
+            example.name
+        );
+        assert_eq!(world.store, example.end, "{}", example.name);
+    }
+}
+
+fn single(engine: Engine) -> Run {
+    Run {
+        engine,
+        used: None,
+        store: None,
+        budget: Budget::Exactly(1),
+    }
+}
+
+/// A run of m and then of n is a run of m + n, however the steps are spread.
+#[test]
+fn runs_add_up() {
+    cases(1_000, |random| {
+        let (mut world, _) = generated(random);
+        let (mut whole, whole_used) = (world.reducer.buffer.clone(), world.reducer.used);
+        let mut budget = 0;
+        for _ in 0..random.below(6) {
+            let steps = random.below(12) as u32;
+            budget += steps;
+            let run = Run {
+                budget: Budget::Exactly(steps),
+                ..single(Engine::Reducer)
+            };
+            world.play(&run);
+        }
+        let ran = run_reducer(&mut whole, whole_used, budget);
+        assert_eq!(u64::from(ran.steps), world.reducer.total);
+        let used = world.reducer.used;
+        assert_eq!(whole[..ran.used as usize], world.reducer.buffer[..used]);
+    });
+}

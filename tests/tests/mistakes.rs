@@ -1,0 +1,178 @@
+//! 01's "Mistakes that pass a quick trial", each with the value that its rules give.
+
+use other::codec::Record;
+use other::examples::program;
+use other::run::stepper::Config;
+use other::run::{run, Outcome};
+use other::substitute::{substitute, values_of};
+use other::tree::{Atom, Block, Bound, Command, Expr, Program, Simple, Term};
+
+const ROOM: usize = 16_384;
+
+fn assign(variable: u32, expr: Expr) -> Command {
+    Command::Assign(variable, expr)
+}
+
+/// Runs a program in both engines; they must agree. Gives outcome, steps and the values shown.
+fn both(block: Block, store: &[u32], budget: u32) -> (Outcome, u32, Config) {
+    let program = program(store.len() as u32, block);
+    let store = store.to_vec();
+    let mut config = Config { program, store };
+    let mut term = config.term();
+    let ended = run(&mut config, ROOM, budget);
+    assert_eq!(run(&mut term, ROOM, budget), ended);
+    assert_eq!(term, config.term());
+    (ended.0, ended.1, config)
+}
+
+fn finished(block: Block, store: &[u32]) -> (u32, Vec<u32>) {
+    let (outcome, steps, config) = both(block, store, 100_000);
+    assert_eq!(outcome, Outcome::Finished);
+    (steps, config.store)
+}
+
+/// Body given q in place of q + 1. {for x1 := 1 to 3 {x2 := x1}} on 0,0: the loop unrolls in steps
+/// 1 to 3, the loop of 0 becomes an empty block (4) that goes (5). Turn 1: x1 := 1 (6), x2 := x1
+/// (7), the block goes (8); turns 2 and 3 the same: 14 steps, 3,3. With q it would be 2,2. After 7
+/// steps the first turn has stored 1,1; with q, 0,0.
+#[test]
+fn the_body_is_given_q_plus_one() {
+    let block = || {
+        let body = vec![assign(2, Expr::Variable(1))];
+        vec![Command::Loop(1, Bound::Literal(3), body)]
+    };
+    assert_eq!(finished(block(), &[0, 0]), (14, vec![3, 3]));
+    let (outcome, steps, config) = both(block(), &[0, 0], 7);
+    assert_eq!((outcome, steps), (Outcome::Spent, 7));
+    assert_eq!(config.store, [1, 1]);
+}
+
+/// The same by a sum: {for x1 := 1 to 4 {for x2 := 1 to x1 {x3 := x3 + 1}}} adds 1 + 2 + 3 + 4,
+/// which is 10; with q it would add 0 + 1 + 2 + 3. An inner loop of n turns takes 5·n + 2 steps
+/// (unroll, index, two for plus one, block goes; and two at 0), so an outer turn n takes
+/// 3 + 5·n + 2, and all take 4·5 + 5·10 + 2 = 72.
+#[test]
+fn turns_count_from_one() {
+    let inner = vec![assign(3, Expr::PlusOne(3))];
+    let outer = vec![Command::Loop(2, Bound::Variable(1), inner)];
+    let block = vec![Command::Loop(1, Bound::Literal(4), outer)];
+    assert_eq!(finished(block, &[0, 0, 0]), (72, vec![4, 4, 10]));
+}
+
+/// Bound read again each turn (P8): {for x2 := 1 to x1 {x1 := x1 + 1}} on 2,0. The bound is 2 when
+/// the loop is met and stays so: the loop left by step 1 has literal 1. Two turns of 5 and two
+/// steps at 0: 12 steps, 4,2. Read again, it would go on until x1 is over.
+#[test]
+fn the_bound_is_read_once() {
+    let body = || vec![assign(1, Expr::PlusOne(1))];
+    let block = || vec![Command::Loop(2, Bound::Variable(1), body())];
+    assert_eq!(finished(block(), &[2, 0]), (12, vec![4, 2]));
+    let (_, _, config) = both(block(), &[2, 0], 1);
+    let unrolled = vec![
+        Command::Loop(2, Bound::Literal(1), body()),
+        assign(2, Expr::Literal(2)),
+        assign(1, Expr::PlusOne(1)),
+    ];
+    assert_eq!(config.program.block, vec![Command::Block(unrolled)]);
+}
+
+/// A bound that its own body sets to 0 still has its turns: {for x2 := 1 to x1 {x1 := 0; x3 := x3 +
+/// 1}} on 3,0,0. A turn takes unroll, index, 1, 2 and the block's going, 6; 3·6 + 2 = 20.
+#[test]
+fn a_bound_set_to_zero_inside_keeps_its_turns() {
+    let body = vec![assign(1, Expr::Literal(0)), assign(3, Expr::PlusOne(3))];
+    let block = vec![Command::Loop(2, Bound::Variable(1), body)];
+    assert_eq!(finished(block, &[3, 0, 0]), (20, vec![0, 3, 3]));
+}
+
+/// Index changes inside a body steering the next turn (P7): {for x1 := 1 to 3 {x1 := 0}} on 9 has
+/// three turns of 4 steps and two at 0: 14, and x1 is 0.
+#[test]
+fn the_index_does_not_steer() {
+    let body = vec![assign(1, Expr::Literal(0))];
+    let block = vec![Command::Loop(1, Bound::Literal(3), body)];
+    assert_eq!(finished(block, &[9]), (14, vec![0]));
+}
+
+/// The index may also be raised or be the bound itself: {for x1 := 1 to x1 {x1 := x1 + 1;
+/// x2 := x2 + 1}} on 3,0 has three turns of 3 + 2 + 2 and two steps at 0: 23. The last turn sets x1
+/// to 3, then to 4.
+#[test]
+fn the_index_as_its_own_bound() {
+    let body = vec![assign(1, Expr::PlusOne(1)), assign(2, Expr::PlusOne(2))];
+    let block = vec![Command::Loop(1, Bound::Variable(1), body)];
+    assert_eq!(finished(block, &[3, 0]), (23, vec![4, 3]));
+}
+
+/// A loop of no turns leaves its index untouched (P6), as a literal and as a variable.
+#[test]
+fn no_turns_leave_the_index() {
+    let block = |bound| vec![Command::Loop(1, bound, vec![assign(2, Expr::Literal(5))])];
+    assert_eq!(finished(block(Bound::Literal(0)), &[9, 0]), (2, vec![9, 0]));
+    let none = block(Bound::Variable(2));
+    assert_eq!(finished(none, &[9, 0]), (2, vec![9, 0]));
+}
+
+/// Plus one counted as one step: {x1 := x1 + 1} on 5 is first {x1 := 6} with the store unchanged,
+/// and only the second step stores. Minus one likewise, and 0 minus one is 0.
+#[test]
+fn plus_one_takes_two_steps() {
+    for (expr, from, to) in [
+        (Expr::PlusOne(1), 5, 6),
+        (Expr::MinusOne(1), 5, 4),
+        (Expr::MinusOne(1), 0, 0),
+    ] {
+        let block = vec![assign(1, expr)];
+        let (outcome, steps, config) = both(block.clone(), &[from], 1);
+        assert_eq!((outcome, steps), (Outcome::Spent, 1));
+        assert_eq!(config.store, [from]);
+        assert_eq!(config.program.block, vec![assign(1, Expr::Literal(to))]);
+        // No length changes in the configuration; the term loses the 4 bytes of succ's head.
+        assert_eq!(config.program.encoded_len(), 28);
+        assert_eq!(config.term().encoded_len(), 36);
+        assert_eq!(finished(block, &[from]), (2, vec![to]));
+    }
+}
+
+/// Substitution under a let-one that rebinds the variable: {x1 := 3; x1 := x1 + 1} on 9 gives 4, in
+/// one step and two. Substituted under the first let-one, its x1 + 1 would be succ 9, and give 10.
+#[test]
+fn a_let_one_rebinds() {
+    let block = vec![assign(1, Expr::Literal(3)), assign(1, Expr::PlusOne(1))];
+    assert_eq!(finished(block, &[9]), (3, vec![4]));
+
+    let all = Box::new(Term::Tuple(vec![Atom::Variable(1), Atom::Variable(2)]));
+    let mut term = Term::LetOne(1, Simple::Atom(Atom::Variable(1)), all);
+    substitute(&mut term, &values_of(&[5, 6]));
+    let last = Box::new(Term::Tuple(vec![Atom::Variable(1), Atom::Numeral(6)]));
+    let wanted = Term::LetOne(1, Simple::Atom(Atom::Numeral(5)), last);
+    assert_eq!(term, wanted);
+}
+
+/// Substitution into let-all's last term or rec's body: {for x1 := 1 to 2 {}; x2 := x1} on 9,0. The
+/// loop leaves x1 = 2, so x2 is 2 (3·2 + 2 steps and one more); substituted from the start it would
+/// be 9. And {for x1 := 1 to 2 {x2 := x2 + 1}} on 0,5 gives 7, not 6.
+#[test]
+fn a_let_all_and_a_rec_bind_everything() {
+    let empty = Command::Loop(1, Bound::Literal(2), vec![]);
+    let block = vec![empty, assign(2, Expr::Variable(1))];
+    assert_eq!(finished(block, &[9, 0]), (9, vec![2, 2]));
+    let body = vec![assign(2, Expr::PlusOne(2))];
+    let block = vec![Command::Loop(1, Bound::Literal(2), body)];
+    assert_eq!(finished(block, &[0, 5]), (12, vec![2, 7]));
+}
+
+/// Only the outermost block tells that the end is reached: {{}; x1 := 1} is not finished, and a
+/// block that becomes empty inside goes in a step of its own: {{x1 := 1}} takes two.
+#[test]
+fn an_empty_block_inside_is_not_the_end() {
+    let block = vec![Command::Block(vec![]), assign(1, Expr::Literal(1))];
+    assert_eq!(finished(block, &[0]), (2, vec![1]));
+    let block = vec![Command::Block(vec![assign(1, Expr::Literal(1))])];
+    assert_eq!(finished(block, &[0]), (2, vec![1]));
+    let none = Program {
+        k: 1,
+        block: vec![],
+    };
+    assert_eq!(finished(none.block, &[4]), (0, vec![4]));
+}
