@@ -14,3 +14,4 @@ pub mod OutcomeLaws
 pub mod PlayLaws
 pub mod RulesLaws
 pub mod OverLaws
+pub mod EvaluateLaws

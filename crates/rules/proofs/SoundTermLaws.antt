@@ -35,7 +35,7 @@ module _ (ok : ℕ → Bool) (limit : Limit ok) where
   SmallOption none b = T b
   SmallOption (some v) b = ok v ≡ true
 
-  -- f has a value for each variable 1 to k of S that is not in R, adding values that fit
+  -- f has a value that passes for each variable 1 to k of S that is not in R
   abbrev pub Covers : ℕ → Substitution → Vars → Vars → Type 0
   Covers k f S R = (y : ℕ) → Within k y → T (S y) → SmallOption (f y) (R y)
 
@@ -88,7 +88,7 @@ module _ (ok : ℕ → Bool) (limit : Limit ok) where
   covers-store s S R hs zero hy t = absurd (not-suc-le-zero (hy .0))
   covers-store s S R hs (suc i) hy t = at-small s i (R (suc i)) hs (hy .1)
 
-  -- a term filled adding a store of k values is closed
+  -- a term with a store of k values substituted is closed
   pub sound-fromStore : (k : ℕ) (s : List ℕ) → length s ≡ k → SmallValues ok s → (S R : Vars) (t : Term) → SoundTerm ok k S t → SoundTerm ok k R (substitute (fromStore s) t)
   sound-fromStore k s e hs S R t ht = sound-substitute k (fromStore s) S R (subst (λ n. Covers n (fromStore s) S R) e (covers-store s S R hs)) t ht
 

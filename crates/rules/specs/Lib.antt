@@ -10,4 +10,5 @@ pub mod Scope
 pub mod FreeVariables
 pub mod Sound
 pub mod Run
+pub mod Evaluate
 pub mod Play
