@@ -1,0 +1,101 @@
+-- THE PROGRAM'S LINE (01 "Bench loads", last part): from the entire standard input to the line printed.
+use Prim.Native.Nat.{_*_, _-_, suc, zero, ℕ}
+use mathlib.Core.Bool.{not}
+use mathlib.Core.List.{_++_, List, [], _∷_}
+use lib.Dec.{eqb, ltb}
+use lib.ListN.{drop, length, replicate, take}
+use Rattle.buffer.specs.LittleEndian.{val}
+use Rattle.record.specs.Answers.{Wrote, padded}
+use Rattle.record.specs.Rows.{Row, firstRow, kOf, programRows, row}
+use Rattle.reducer.specs.RunReducer.{ReducerCall, runReducer}
+use Rattle.rules.specs.Run.{Outcome, isFinished, isOver, noRoom, refused, spent}
+use Rattle.stepper.specs.RunStepper.{StepperCall, runStepper}
+use Rattle.term.specs.Calls.{substituteCall, tooShort, translateCall, translated}
+use Rattle.report.specs.Decimal.{decimal}
+
+-- THE INPUT: a program record, whose first two bytes say how long it is, and then its k values, 4 bytes each
+
+-- The length that the first two bytes say.
+abbrev pub saidLength : List ℕ → ℕ
+saidLength input = val (take 2 input)
+
+abbrev pub recordOf : List ℕ → List ℕ
+recordOf input = take (saidLength input) input
+
+-- So many values of 4 bytes each.
+unfoldable pub valuesIn : ℕ → List ℕ → List ℕ
+valuesIn zero bytes = []
+valuesIn (suc n) bytes = val (take 4 bytes) ∷ valuesIn n (drop 4 bytes)
+
+abbrev pub kOfInput : List ℕ → ℕ
+kOfInput input = kOf (recordOf input) (saidLength input)
+
+abbrev pub storeOf : List ℕ → List ℕ
+storeOf input = valuesIn (kOfInput input) (drop (saidLength input) input)
+
+-- THE RUNS: each engine has a buffer of 16,384 bytes and a budget of 1,000,000
+
+unfoldable pub programBuffer : ℕ
+programBuffer = 16384
+
+unfoldable pub programBudget : ℕ
+programBudget = 1000000
+
+-- The record of the program's term.
+abbrev pub termOfInput : List ℕ → Wrote
+termOfInput input = translateCall (recordOf input) (saidLength input) (replicate programBuffer 0)
+
+unfoldable pub stepperRun : List ℕ → StepperCall
+stepperRun input = runStepper (padded programBuffer (recordOf input)) (saidLength input) (storeOf input) programBudget
+
+unfoldable pub reducerFrom : Wrote → ReducerCall
+reducerFrom s = runReducer (s .written) (s .used) programBudget
+
+unfoldable pub substitutedFrom : List ℕ → Wrote → Wrote
+substitutedFrom input t = substituteCall (t .written) (t .used) (storeOf input)
+
+unfoldable pub reducerRun : List ℕ → ReducerCall
+reducerRun input = reducerFrom (substitutedFrom input (termOfInput input))
+
+-- THE REFUSALS, in their order: under 2 bytes; a first length above 16,384; an input shorter than that length; rows 2 to 5 of
+-- the record; a remainder that is not k values; a term longer than the buffer
+abbrev pub lineRows : List ℕ → List Row
+lineRows input =
+    row 2 (ltb (length input) 2)
+    ∷ row 1 (ltb 16384 (saidLength input))
+    ∷ row 2 (ltb (length input) (saidLength input))
+    ∷ programRows (recordOf input) (saidLength input)
+    (row 6 (not (eqb (length input - saidLength input) (4 * kOfInput input)))
+    ∷ row 10 (tooShort (replicate programBuffer 0) (translated (recordOf input) (saidLength input)))
+    ∷ [])
+
+-- THE LINE, in ASCII, with its end of line
+
+-- `finished`, `over`, `noroom`, `spent`, `refused`.
+unfoldable pub outcomeWord : Outcome → List ℕ
+outcomeWord isFinished = 102 ∷ 105 ∷ 110 ∷ 105 ∷ 115 ∷ 104 ∷ 101 ∷ 100 ∷ []
+outcomeWord isOver = 111 ∷ 118 ∷ 101 ∷ 114 ∷ []
+outcomeWord noRoom = 110 ∷ 111 ∷ 114 ∷ 111 ∷ 111 ∷ 109 ∷ []
+outcomeWord spent = 115 ∷ 112 ∷ 101 ∷ 110 ∷ 116 ∷ []
+outcomeWord refused = 114 ∷ 101 ∷ 102 ∷ 117 ∷ 115 ∷ 101 ∷ 100 ∷ []
+
+-- A space, and then the number.
+unfoldable pub spaced : ℕ → List ℕ
+spaced n = 32 ∷ decimal n
+
+unfoldable pub spacedAll : List ℕ → List ℕ
+spacedAll [] = []
+spacedAll (v ∷ vs) = spaced v ++ spacedAll vs
+
+-- The stepper's outcome and steps, the reducer's, the stepper's store.
+unfoldable pub ranLine : StepperCall → ReducerCall → List ℕ
+ranLine s r =
+    outcomeWord (s .answer .outcome) ++ (spaced (s .answer .steps) ++ (32 ∷ (outcomeWord (r .answer .outcome)
+    ++ (spaced (r .answer .steps) ++ (spacedAll (s .store) ++ (10 ∷ []))))))
+
+unfoldable pub lineBy : ℕ → List ℕ → List ℕ
+lineBy zero input = ranLine (stepperRun input) (reducerRun input)
+lineBy (suc n) input = outcomeWord refused ++ (spaced (suc n) ++ (10 ∷ []))
+
+unfoldable pub line : List ℕ → List ℕ
+line input = lineBy (firstRow (lineRows input)) input
