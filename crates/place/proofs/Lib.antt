@@ -5,3 +5,5 @@ pub mod ProgramBytesLaws
 pub mod ProgramViewLaws
 pub mod TermBytesLaws
 pub mod TermViewLaws
+pub mod PathLaws
+pub mod TermPathLaws

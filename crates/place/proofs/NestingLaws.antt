@@ -44,6 +44,18 @@ module _ {T : Type 0} (N : Nesting T) where
   rests-append [] q = sym (append-nil (rests N q))
   rests-append (r ∷ p) q = rw (rests-append p q) (simp append-assoc)
 
+  -- WHAT A TREE HAS, those inside it have; what is the same of a tree and those inside it
+
+  pub plug-keeps : (P : T → Type 0) → ((t r : T) → P (N .wrap t r) → P t) → (p : List T) (t : T) → P (plug N p t) → P t
+  unfolding plug
+  plug-keeps P f [] t h = h
+  plug-keeps P f (r ∷ p) t h = plug-keeps P f p t (f (plug N p t) r h)
+
+  pub plug-same : {A : Type 0} (f : T → A) → ((t r : T) → f (N .wrap t r) ≡ f t) → (p : List T) (t : T) → f (plug N p t) ≡ f t
+  unfolding plug
+  plug-same f h [] t = refl
+  plug-same f h (r ∷ p) t = h (plug N p t) r ∙ plug-same f h p t
+
   -- LENGTHS
 
   pub length-beside : (p : List T) → length (beside N p) ≡ length p

@@ -3,3 +3,5 @@ pub mod Heads
 pub mod Nesting
 pub mod ProgramView
 pub mod TermView
+pub mod Path
+pub mod TermPath
