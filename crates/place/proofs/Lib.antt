@@ -7,3 +7,4 @@ pub mod TermBytesLaws
 pub mod TermViewLaws
 pub mod PathLaws
 pub mod TermPathLaws
+pub mod WholeLaws

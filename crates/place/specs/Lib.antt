@@ -5,3 +5,4 @@ pub mod ProgramView
 pub mod TermView
 pub mod Path
 pub mod TermPath
+pub mod Whole
