@@ -8,3 +8,5 @@ pub mod TermViewLaws
 pub mod PathLaws
 pub mod TermPathLaws
 pub mod WholeLaws
+pub mod EditLaws
+pub mod ProgramEditLaws

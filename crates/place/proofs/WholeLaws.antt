@@ -2,8 +2,8 @@
 use Prim.Native.Nat.{_*_, _+_, _-_, _<_, _≤_, suc, ℕ}
 use mathlib.Core.Path.{ap, refl, sym, _∙_, _≡_}
 use mathlib.Core.List.{_++_, List, [], append-assoc, append-nil, _∷_}
-use lib.ListN.{drop, length, length-append, take, take-append-drop}
-use lib.Seq.{length-take-le, take-at}
+use lib.ListN.{drop, length, length-append}
+use lib.Seq.{length-take-le}
 use native.Mathlib.Omega.{arith}
 use Rattle.buffer.specs.LittleEndian.{le, val}
 use Rattle.buffer.specs.Slice.{part, put}
@@ -30,18 +30,11 @@ use Rattle.place.specs.TermPath.{terms}
 use Rattle.place.specs.TermView.{TermAt}
 use Rattle.place.specs.Whole.{blockAt, front, header, programFront, relengthAll, termFront}
 use Rattle.place.proofs.AtLaws.{at-part}
+use Rattle.place.proofs.EditLaws.{split-take, take-split}
 use Rattle.place.proofs.HeadsLaws.{encodeRecord-head, length-at, length-recordHead, length-relength, put-length}
 use Rattle.place.proofs.NestingLaws.{encode-plug, length-heads, plug-nil, relength-path, size-plug}
 use Rattle.place.proofs.PathLaws.{blocks-nest}
 use Rattle.place.proofs.TermPathLaws.{terms-nest}
-
--- THE FIRST BYTES OF A LIST, and what is behind them
-
-pub take-split : (used : ℕ) (l m : List ℕ) → take used l ≡ m → l ≡ m ++ drop used l
-take-split used l m e = sym (take-append-drop used l) ∙ ap (λ (y : List ℕ). y ++ drop used l) e
-
-pub split-take : (used : ℕ) (l m t : List ℕ) → l ≡ m ++ t → length m ≡ used → take used l ≡ m
-split-take used l m t e h = ap (take used) e ∙ take-at m t used h
 
 -- THE BYTES
 

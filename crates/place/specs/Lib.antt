@@ -6,3 +6,4 @@ pub mod TermView
 pub mod Path
 pub mod TermPath
 pub mod Whole
+pub mod Edit
