@@ -2,14 +2,22 @@
 use Prim.Native.Nat.{_+_, _<_, _≤_, _^_, ℕ}
 use mathlib.Core.Path.{ap, refl, sym, _∙_, _≡_}
 use mathlib.Core.List.{_++_, List, append-assoc}
-use lib.ListN.{drop, length, length-append}
-use lib.Seq.{drop-at}
+use lib.ListN.{drop, length, length-append, take, take-append-drop}
+use lib.Seq.{drop-at, take-at}
 use native.Mathlib.Omega.{arith}
 use Rattle.buffer.specs.LittleEndian.{le, val}
 use Rattle.buffer.specs.Slice.{part, put}
 use Rattle.buffer.proofs.LittleEndianLaws.{length-le}
 use Rattle.buffer.proofs.SliceLaws.{part-re, put-re, val-part-re}
 use Rattle.place.specs.At.{At}
+
+-- THE FIRST BYTES OF A LIST, and what is behind them
+
+pub take-split : (used : ℕ) (l m : List ℕ) → take used l ≡ m → l ≡ m ++ drop used l
+take-split used l m e = sym (take-append-drop used l) ∙ ap (λ (y : List ℕ). y ++ drop used l) e
+
+pub split-take : (used : ℕ) (l m t : List ℕ) → l ≡ m ++ t → length m ≡ used → take used l ≡ m
+split-take used l m t e h = ap (take used) e ∙ take-at m t used h
 
 -- PLACES
 
@@ -77,3 +85,20 @@ put-part {l} {p} {m} h a b c vs q e n s =
 pub put-over : {l : List ℕ} {p : ℕ} {m : List ℕ} → At l p m → (vs ws : List ℕ) → length m ≡ length vs → length m ≡ length ws → put (put l p vs) p ws ≡ put l p ws
 unfolding at-put
 put-over h vs ws e f = put-at (at-put h vs e) ws (sym e ∙ f) ∙ sym (put-at h ws f)
+
+-- a store over the first of two neighbours leaves the second, and over the second the first
+pub at-put-first : {l : List ℕ} {p : ℕ} (m n vs : List ℕ) (q : ℕ) → At l p (m ++ n) → length m ≡ length vs → p + length m ≡ q → At (put l p vs) q n
+at-put-first {l} {p} m n vs q h e hq = record {
+  pre = h .pre ++ vs;
+  post = h .post;
+  is = put-re l (h .pre) m (n ++ h .post) vs p (h .is ∙ simp append-assoc) (h .len) e ∙ simp append-assoc;
+  len = length-append (h .pre) vs ∙ omega (arith, h .len);
+}
+
+pub at-put-second : {l : List ℕ} {p : ℕ} (m n vs : List ℕ) (q : ℕ) → At l p (m ++ n) → length n ≡ length vs → p + length m ≡ q → At (put l q vs) p m
+at-put-second {l} {p} m n vs q h e hq = record {
+  pre = h .pre;
+  post = vs ++ h .post;
+  is = put-re l (h .pre ++ m) n (h .post) vs q (h .is ∙ simp append-assoc) (length-append (h .pre) m ∙ omega (arith, h .len)) e ∙ simp append-assoc;
+  len = h .len;
+}

@@ -12,16 +12,8 @@ use Rattle.buffer.proofs.SliceLaws.{length-part, length-put, length-zeros, part
 use Rattle.place.specs.At.{At}
 use Rattle.place.specs.Edit.{Cut, closedUp, lead, leafBytes, removed}
 use Rattle.place.specs.Heads.{recordHead}
-use Rattle.place.proofs.AtLaws.{at-room, put-part}
+use Rattle.place.proofs.AtLaws.{at-room, put-part, split-take, take-split}
 use Rattle.place.proofs.HeadsLaws.{length-recordHead}
-
--- THE FIRST BYTES OF A LIST, and what is behind them
-
-pub take-split : (used : ℕ) (l m : List ℕ) → take used l ≡ m → l ≡ m ++ drop used l
-take-split used l m e = sym (take-append-drop used l) ∙ ap (λ (y : List ℕ). y ++ drop used l) e
-
-pub split-take : (used : ℕ) (l m t : List ℕ) → l ≡ m ++ t → length m ≡ used → take used l ≡ m
-split-take used l m t e h = ap (take used) e ∙ take-at m t used h
 
 -- TAKING OUT
 

@@ -10,3 +10,5 @@ pub mod TermPathLaws
 pub mod WholeLaws
 pub mod EditLaws
 pub mod ProgramEditLaws
+pub mod TermEditLaws
+pub mod TermPutLaws

@@ -15,7 +15,8 @@ use Rattle.record.proofs.ProgramLaws.{length-encodeBlock}
 use Rattle.record.proofs.ReadingLaws.{length-encodeLeaf}
 use Rattle.place.specs.Edit.{Cut, lead, leafBytes}
 use Rattle.place.specs.Heads.{recordHead}
-use Rattle.place.proofs.EditLaws.{cut-re, length-lead, length-leafBytes, split-take, take-split, unrolled}
+use Rattle.place.proofs.AtLaws.{split-take, take-split}
+use Rattle.place.proofs.EditLaws.{cut-re, length-lead, length-leafBytes, unrolled}
 use Rattle.place.proofs.HeadsLaws.{length-recordHead}
 use Rattle.place.proofs.ProgramBytesLaws.{blockSize-assign, blockSize-empty, blockSize-loop, blockSize-nest, encodeBlock-assign, encodeBlock-empty, encodeBlock-loop, encodeBlock-nest, encodeLeaf-head}
 

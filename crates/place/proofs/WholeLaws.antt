@@ -29,8 +29,7 @@ use Rattle.place.specs.ProgramView.{BlockAt}
 use Rattle.place.specs.TermPath.{terms}
 use Rattle.place.specs.TermView.{TermAt}
 use Rattle.place.specs.Whole.{blockAt, front, header, programFront, relengthAll, termFront}
-use Rattle.place.proofs.AtLaws.{at-part}
-use Rattle.place.proofs.EditLaws.{split-take, take-split}
+use Rattle.place.proofs.AtLaws.{at-part, split-take, take-split}
 use Rattle.place.proofs.HeadsLaws.{encodeRecord-head, length-at, length-recordHead, length-relength, put-length}
 use Rattle.place.proofs.NestingLaws.{encode-plug, length-heads, plug-nil, relength-path, size-plug}
 use Rattle.place.proofs.PathLaws.{blocks-nest}
