@@ -3,7 +3,7 @@ use Prim.Native.Nat.{_+_, _<_, _≤_, _^_, ℕ}
 use mathlib.Core.Path.{ap, refl, sym, _∙_, _≡_}
 use mathlib.Core.List.{_++_, List, append-assoc}
 use lib.ListN.{drop, length, length-append, take, take-append-drop}
-use lib.Seq.{drop-at, take-at}
+use lib.Seq.{drop-at, length-take-le, take-at}
 use native.Mathlib.Omega.{arith}
 use Rattle.buffer.specs.LittleEndian.{le, val}
 use Rattle.buffer.specs.Slice.{part, put}
@@ -18,6 +18,15 @@ take-split used l m e = sym (take-append-drop used l) ∙ ap (λ (y : List ℕ).
 
 pub split-take : (used : ℕ) (l m t : List ℕ) → l ≡ m ++ t → length m ≡ used → take used l ≡ m
 split-take used l m t e h = ap (take used) e ∙ take-at m t used h
+
+-- a store over a part of the first bytes
+pub put-take : (used : ℕ) (l pre mid post vs : List ℕ) (p : ℕ) → take used l ≡ pre ++ (mid ++ post) → used ≤ length l → length pre ≡ p → length mid ≡ length vs
+    → take used (put l p vs) ≡ pre ++ (vs ++ post)
+put-take used l pre mid post vs p e fits hp hm =
+    let is : l ≡ pre ++ (mid ++ (post ++ drop used l)) = take-split used l (pre ++ (mid ++ post)) e ∙ simp append-assoc in
+    let u : used ≡ length (pre ++ (mid ++ post)) = sym (length-take-le used l fits) ∙ ap length e in
+    let n : length (pre ++ (vs ++ post)) ≡ used = sym (u ∙ simp length-append (rw hm)) in
+    split-take used (put l p vs) (pre ++ (vs ++ post)) (drop used l) (put-re l pre mid (post ++ drop used l) vs p is hp hm ∙ simp append-assoc) n
 
 -- PLACES
 
@@ -48,6 +57,16 @@ at-join {l} {p} {q} {m} {n} h k e =
     let a : drop q l ≡ h .post = ap (drop q) (h .is ∙ sym (append-assoc (h .pre) m (h .post))) ∙ drop-at (h .pre ++ m) (h .post) q hp in
     let b : drop q l ≡ n ++ k .post = ap (drop q) (k .is) ∙ drop-at (k .pre) (n ++ k .post) q (k .len) in
     record { pre = h .pre; post = k .post; is = h .is ∙ ap (λ (y : List ℕ). h .pre ++ (m ++ y)) (sym a ∙ b) ∙ simp append-assoc; len = h .len }
+
+-- what is read of a list stands there
+pub at-read : (l : List ℕ) (p n : ℕ) → p + n ≤ length l → At l p (part l p n)
+unfolding part
+at-read l p n h = record {
+  pre = take p l;
+  post = drop n (drop p l);
+  is = rw (take-append-drop n (drop p l)) (sym (take-append-drop p l));
+  len = length-take-le p l (omega arith);
+}
 
 -- WHAT IS READ
 

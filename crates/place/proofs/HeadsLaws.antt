@@ -8,9 +8,9 @@ use Rattle.buffer.specs.LittleEndian.{le, val}
 use Rattle.buffer.specs.Slice.{part, put}
 use Rattle.record.specs.Record.{encodeRecord}
 use Rattle.buffer.proofs.LittleEndianLaws.{length-le}
-use Rattle.buffer.proofs.SliceLaws.{length-put, put-put, put-re, val-part-re}
+use Rattle.buffer.proofs.SliceLaws.{length-put, put-put, put-re}
 use Rattle.place.specs.At.{At}
-use Rattle.place.specs.Heads.{Lengths, headsAround, recordHead, relength, shifted}
+use Rattle.place.specs.Heads.{Lengths, headsAround, recordHead, relength}
 use Rattle.place.proofs.AtLaws.{at-part, val-at, word-read}
 
 -- ONE HEAD
@@ -103,16 +103,3 @@ module _ (f : ℕ → ℕ) (n m : ℕ) (changes : (e : ℕ) → f (n + e) ≡ m 
       ∙ ap (relength f (length es) (p + 4)) s
       ∙ relength-heads kind es (pre ++ b) post (p + 4) (rw (length-append pre b, length-recordHead kind (m + e)) (ap (λ (y : ℕ). y + 4) hp)) (h .1)
       ∙ append-assoc pre b (headsAround kind es m ++ post))
-
--- so many bytes more and so many fewer; only more; only fewer
-pub relength-shifted : (up down n m kind : ℕ) (es pre post : List ℕ) (p : ℕ) → m + down ≡ n + up → length pre ≡ p → Lengths es n
-    → relength (shifted up down) (length es) p (pre ++ (headsAround kind es n ++ post)) ≡ pre ++ (headsAround kind es m ++ post)
-relength-shifted up down n m kind es pre post p h = relength-heads (shifted up down) n m (λ e. omega arith) kind es pre post p
-
-pub relength-more : (d n kind : ℕ) (es pre post : List ℕ) (p : ℕ) → length pre ≡ p → Lengths es n
-    → relength (λ v. v + d) (length es) p (pre ++ (headsAround kind es n ++ post)) ≡ pre ++ (headsAround kind es (n + d) ++ post)
-relength-more d n kind es pre post p = relength-heads (λ v. v + d) n (n + d) (λ e. omega arith) kind es pre post p
-
-pub relength-fewer : (d n kind : ℕ) (es pre post : List ℕ) (p : ℕ) → length pre ≡ p → Lengths es (n + d)
-    → relength (λ v. v - d) (length es) p (pre ++ (headsAround kind es (n + d) ++ post)) ≡ pre ++ (headsAround kind es n ++ post)
-relength-fewer d n kind es pre post p = relength-heads (λ v. v - d) (n + d) n (λ e. omega arith) kind es pre post p

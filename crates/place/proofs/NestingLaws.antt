@@ -1,14 +1,14 @@
 -- Laws of paths: the bytes and sizes of a tree at the end of one, paths in two parts, and the lengths along one.
-use Prim.Native.Nat.{_*_, _+_, _-_, _<_, _≤_, suc, zero, ℕ}
+use Prim.Native.Nat.{_*_, _+_, _-_, _<_, suc, ℕ}
 use mathlib.Core.Path.{ap, refl, sym, _∙_, _≡_}
 use mathlib.Core.List.{_++_, List, [], append-assoc, append-nil, _∷_}
 use lib.ListN.{length, length-append}
 use native.Mathlib.Omega.{arith}
 use Rattle.place.specs.At.{At}
-use Rattle.place.specs.Heads.{Lengths, headsAround, recordHead, relength, shifted}
+use Rattle.place.specs.Heads.{Lengths, headsAround, relength, shifted}
 use Rattle.place.specs.Nesting.{Nesting, Nests, around, beside, heads, plug, rests}
 use Rattle.place.proofs.AtLaws.{at-part}
-use Rattle.place.proofs.HeadsLaws.{length-headsAround, length-recordHead, relength-fewer, relength-more, relength-shifted}
+use Rattle.place.proofs.HeadsLaws.{length-headsAround, length-recordHead, relength-heads}
 
 module _ {T : Type 0} (N : Nesting T) where
   pub plug-nil : (t : T) → plug N [] t ≡ t
@@ -78,6 +78,10 @@ module _ {T : Type 0} (N : Nesting T) where
     size-plug [] t = omega arith
     size-plug (r ∷ p) t = size-wrap (plug N p t) r ∙ omega (arith, size-plug p t)
 
+    -- what the tree at the end of a path gains or loses, the whole does
+    pub size-shifted : (up down : ℕ) (p : List T) (t u : T) → N .size u + down ≡ N .size t + up → N .size (plug N p u) + down ≡ N .size (plug N p t) + up
+    size-shifted up down p t u e = omega (arith, size-plug p t, size-plug p u)
+
     pub length-rests : (p : List T) → 4 * length p + length (rests N p) ≡ around N p
     unfolding rests around
     length-rests [] = refl
@@ -104,9 +108,23 @@ module _ {T : Type 0} (N : Nesting T) where
     lengths-beside [] n h = tt
     lengths-beside (r ∷ p) n h = (omega (arith, L .inside-le r), lengths-beside p n (omega arith))
 
-    pub relength-path : (up down n m : ℕ) (p : List T) (pre post : List ℕ) (o : ℕ) → m + down ≡ n + up → length pre ≡ o → n + around N p < 65536
-        → relength (shifted up down) (length p) o (pre ++ (heads N p n ++ post)) ≡ pre ++ (heads N p m ++ post)
+    -- the lengths around n bytes become those around m
+    pub relength-path : (f : ℕ → ℕ) (n m : ℕ) → ((e : ℕ) → f (n + e) ≡ m + e) → (p : List T) (pre post : List ℕ) (o : ℕ) → length pre ≡ o → n + around N p < 65536
+        → relength f (length p) o (pre ++ (heads N p n ++ post)) ≡ pre ++ (heads N p m ++ post)
     unfolding heads
-    relength-path up down n m p pre post o h hp s =
-        ap (λ (c : ℕ). relength (shifted up down) c o (pre ++ (headsAround (N .kind) (beside N p) n ++ post))) (sym (length-beside p))
-        ∙ relength-shifted up down n m (N .kind) (beside N p) pre post o h hp (lengths-beside p n s)
+    relength-path f n m changes p pre post o hp h =
+        ap (λ (c : ℕ). relength f c o (pre ++ (headsAround (N .kind) (beside N p) n ++ post))) (sym (length-beside p))
+        ∙ relength-heads f n m changes (N .kind) (beside N p) pre post o hp (lengths-beside p n h)
+
+    -- so many bytes more and so many fewer; only more; only fewer
+    pub relength-shifted : (up down n m : ℕ) (p : List T) (pre post : List ℕ) (o : ℕ) → m + down ≡ n + up → length pre ≡ o → n + around N p < 65536
+        → relength (shifted up down) (length p) o (pre ++ (heads N p n ++ post)) ≡ pre ++ (heads N p m ++ post)
+    relength-shifted up down n m p pre post o e = relength-path (shifted up down) n m (λ i. omega arith) p pre post o
+
+    pub relength-more : (d n : ℕ) (p : List T) (pre post : List ℕ) (o : ℕ) → length pre ≡ o → n + around N p < 65536
+        → relength (λ v. v + d) (length p) o (pre ++ (heads N p n ++ post)) ≡ pre ++ (heads N p (n + d) ++ post)
+    relength-more d n p pre post o = relength-path (λ v. v + d) n (n + d) (λ i. omega arith) p pre post o
+
+    pub relength-fewer : (d n : ℕ) (p : List T) (pre post : List ℕ) (o : ℕ) → length pre ≡ o → n + d + around N p < 65536
+        → relength (λ v. v - d) (length p) o (pre ++ (heads N p (n + d) ++ post)) ≡ pre ++ (heads N p n ++ post)
+    relength-fewer d n p pre post o = relength-path (λ v. v - d) (n + d) n (λ i. omega arith) p pre post o

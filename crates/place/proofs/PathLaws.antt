@@ -2,9 +2,9 @@
 -- and the step there.
 use Prim.Native.Nat.{_*_, _+_, _<_, _≤_, ℕ}
 use mathlib.Core.Path.{ap, refl, sym, _∙_, _≡_}
-use mathlib.Core.Bool.{_&&_, Bool, false, true}
-use mathlib.Core.List.{_++_, List, [], append-assoc, append-nil, _∷_}
-use borrow.Author.Tests.{eq-eqb, eqb-true, le-ltb, lt-ltb, ltb-false, ltb-true, ne-eqb}
+use mathlib.Core.Bool.{Bool, false, true}
+use mathlib.Core.List.{_++_, List, [], append-nil, _∷_}
+use borrow.Author.Tests.{eq-eqb, eqb-true, le-ltb, lt-ltb, ltb-true, ne-eqb}
 use lib.Dec.{eqb, lit<, ltb}
 use lib.ListN.{length, length-append}
 use native.Mathlib.Omega.{arith}
@@ -13,7 +13,7 @@ use Rattle.buffer.specs.Slice.{part}
 use Rattle.rules.specs.Reduction.{onNext}
 use Rattle.rules.specs.Rules.{at}
 use Rattle.rules.specs.Step.{step, stepBlock, stepInside}
-use Rattle.rules.specs.Syntax.{Answer, Block, Bound, Config, Expr, assign, empty, finished, loop, nest, next, over}
+use Rattle.rules.specs.Syntax.{Answer, Block, Config, assign, empty, finished, loop, nest, next, over}
 use Rattle.record.specs.Program.{BlockWords, blockSize, encodeBlock}
 use Rattle.rules.proofs.FinishedLaws.{step-finished}
 use Rattle.rules.proofs.Tests.{and-both, true-false}
@@ -21,11 +21,11 @@ use Rattle.record.proofs.ProgramLaws.{length-encodeBlock}
 use Rattle.place.specs.Heads.{recordHead}
 use Rattle.place.specs.Nesting.{Nests, around, heads, plug, rests}
 use Rattle.place.specs.Path.{Spot, Walk, blocks, opensAt, path, plugConfig, spot, spotAssign, spotEmpty, spotLoop}
-use Rattle.place.specs.ProgramView.{BlockAt, NestView}
+use Rattle.place.specs.ProgramView.{BlockAt}
 use Rattle.place.proofs.AtLaws.{at-same}
 use Rattle.place.proofs.HeadsLaws.{kind-at, length-at}
-use Rattle.place.proofs.NestingLaws.{encode-plug, plug-append, plug-at, plug-keeps, plug-nil, plug-snoc, size-plug}
-use Rattle.place.proofs.ProgramBytesLaws.{blockSize-assign, blockSize-empty, blockSize-loop, blockSize-nest, blockSize-some, blockSize-zero, encodeBlock-nest}
+use Rattle.place.proofs.NestingLaws.{encode-plug, plug-at, plug-keeps, plug-nil, plug-snoc, size-plug}
+use Rattle.place.proofs.ProgramBytesLaws.{blockSize-assign, blockSize-empty, blockSize-loop, blockSize-nest, blockSize-some, encodeBlock-nest}
 use Rattle.place.proofs.ProgramViewLaws.{as-nest, block-index, block-room, block-same}
 
 -- BYTES AND SIZES

@@ -1,13 +1,13 @@
 -- The bytes of a block, from its first command on, with every head in sight; and expressions and bounds by their kinds.
-use Prim.Native.Nat.{_+_, _<_, _≤_, zero, suc, ℕ}
-use mathlib.Core.Path.{ap, refl, sym, _∙_, _≡_}
-use mathlib.Core.List.{_++_, List, [], append-assoc, append-nil}
+use Prim.Native.Nat.{_+_, _<_, _≤_, ℕ}
+use mathlib.Core.Path.{ap, refl, _≡_}
+use mathlib.Core.List.{_++_, List, [], append-assoc}
 use mathlib.Core.Option.{Option}
 use lib.ListN.{length, length-append}
 use native.Mathlib.Omega.{arith}
-use Rattle.buffer.specs.LittleEndian.{le, val}
+use Rattle.buffer.specs.LittleEndian.{le}
 use Rattle.rules.specs.Syntax.{Block, Bound, Expr, assign, dec, empty, inc, lit, loop, nest, upto, uptoVar, var}
-use Rattle.record.specs.Program.{BlockWords, blockSize, boundFrom, boundKind, boundNumber, encodeBlock, encodeBound, encodeExpr, exprFrom, exprKind, exprNumber}
+use Rattle.record.specs.Program.{BlockWords, blockSize, boundKind, boundNumber, encodeBlock, encodeBound, encodeExpr, exprKind, exprNumber}
 use Rattle.record.specs.Reading.{encodeLeaf}
 use Rattle.record.specs.Record.{encodeRecord}
 use Rattle.buffer.proofs.LittleEndianLaws.{length-le}
@@ -16,7 +16,7 @@ use Rattle.record.proofs.ReadingLaws.{length-encodeLeaf}
 use Rattle.record.proofs.RecordLaws.{length-encodeRecord}
 use Rattle.place.specs.Heads.{recordHead}
 use Rattle.place.specs.ProgramView.{append}
-use Rattle.place.proofs.HeadsLaws.{encodeRecord-head, length-recordHead}
+use Rattle.place.proofs.HeadsLaws.{encodeRecord-head}
 
 -- A LEAF
 

@@ -1,7 +1,7 @@
 -- The first command of a block changed in place: the bytes before and after.
 use Prim.Native.Nat.{_+_, _-_, _≤_, suc, ℕ}
-use mathlib.Core.Path.{ap, refl, sym, _∙_, _≡_}
-use mathlib.Core.List.{_++_, List, [], append-assoc, append-nil}
+use mathlib.Core.Path.{ap, sym, _∙_, _≡_}
+use mathlib.Core.List.{_++_, List, append-assoc}
 use lib.ListN.{drop, length, length-append, take}
 use lib.Seq.{length-take-le}
 use native.Mathlib.Omega.{arith}
@@ -15,10 +15,10 @@ use Rattle.record.proofs.ProgramLaws.{length-encodeBlock}
 use Rattle.record.proofs.ReadingLaws.{length-encodeLeaf}
 use Rattle.place.specs.Edit.{Cut, lead, leafBytes}
 use Rattle.place.specs.Heads.{recordHead}
-use Rattle.place.proofs.AtLaws.{split-take, take-split}
+use Rattle.place.proofs.AtLaws.{put-take, split-take, take-split}
 use Rattle.place.proofs.EditLaws.{cut-re, length-lead, length-leafBytes, unrolled}
 use Rattle.place.proofs.HeadsLaws.{length-recordHead}
-use Rattle.place.proofs.ProgramBytesLaws.{blockSize-assign, blockSize-empty, blockSize-loop, blockSize-nest, encodeBlock-assign, encodeBlock-empty, encodeBlock-loop, encodeBlock-nest, encodeLeaf-head}
+use Rattle.place.proofs.ProgramBytesLaws.{blockSize-assign, blockSize-empty, blockSize-loop, encodeBlock-assign, encodeBlock-empty, encodeBlock-loop, encodeBlock-nest, encodeLeaf-head}
 
 -- THE PIECES
 
@@ -75,12 +75,12 @@ module _ (l m pre post : List ℕ) (p used : ℕ) (fits : used ≤ length l) (pl
 
 -- AN EXPRESSION REPLACED by another, which is as long
 
-pub assign-replaced : (l pre post : List ℕ) (p q x : ℕ) (e e′ : Expr) (r : Block) → l ≡ pre ++ (encodeBlock (assign x e r) ++ post) → length pre ≡ p → q ≡ p + 8
-    → put l q (leafBytes (exprKind e′) (exprNumber e′)) ≡ pre ++ (encodeBlock (assign x e′ r) ++ post)
-assign-replaced l pre post p q x e e′ r h hp hq =
-    put-re l (pre ++ (recordHead 2 16 ++ le 4 x)) (encodeExpr e) (encodeBlock r ++ post) (leafBytes (exprKind e′) (exprNumber e′)) q
-    (h ∙ rw (encodeBlock-assign x e r) (simp append-assoc)) (simp (length-append, length-recordHead, length-le) (omega arith))
-    (length-encodeLeaf exprKind exprNumber exprFrom e ∙ sym (length-leafBytes (exprKind e′) (exprNumber e′)))
+pub assign-replaced : (l pre post : List ℕ) (p q used x : ℕ) (e e′ : Expr) (r : Block) → take used l ≡ pre ++ (encodeBlock (assign x e r) ++ post) → used ≤ length l
+    → length pre ≡ p → q ≡ p + 8 → take used (put l q (leafBytes (exprKind e′) (exprNumber e′))) ≡ pre ++ (encodeBlock (assign x e′ r) ++ post)
+assign-replaced l pre post p q used x e e′ r h fits hp hq =
+    let v : List ℕ = leafBytes (exprKind e′) (exprNumber e′) in
+    put-take used l (pre ++ (recordHead 2 16 ++ le 4 x)) (encodeExpr e) (encodeBlock r ++ post) v q (h ∙ rw (encodeBlock-assign x e r) (simp append-assoc)) fits
+    (simp (length-append, length-recordHead, length-le) (omega arith)) (length-encodeLeaf exprKind exprNumber exprFrom e ∙ sym (length-leafBytes (exprKind e′) (exprNumber e′)))
     ∙ rw (encodeBlock-assign x e′ r, encodeExpr-leaf e′) (simp append-assoc)
 
 -- A LOOP UNROLLED

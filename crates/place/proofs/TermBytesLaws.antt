@@ -1,21 +1,19 @@
 -- The bytes of a term with every head in sight; atoms and what a let-one binds by their kinds.
 use Prim.Native.Nat.{_*_, _+_, _<_, _≤_, ℕ}
-use mathlib.Core.Path.{ap, refl, sym, _∙_, _≡_}
-use mathlib.Core.List.{_++_, List, [], append-assoc, append-nil, _∷_}
-use lib.ListN.{length, length-append}
+use mathlib.Core.Path.{ap, refl, _∙_, _≡_}
+use mathlib.Core.List.{_++_, List, [], append-assoc, _∷_}
+use lib.ListN.{length}
 use native.Mathlib.Omega.{arith}
 use Rattle.buffer.specs.LittleEndian.{le}
 use Rattle.rules.specs.FreeVariables.{atomOfSimple}
 use Rattle.rules.specs.Syntax.{Atom, Simple, Term, letAll, letOne, num, plain, predOf, rec, ref, succOf, tuple}
-use Rattle.record.specs.Record.{encodeRecord}
-use Rattle.record.specs.Term.{AtomsWords, atomFrom, atomKind, atomNumber, encodeAtom, encodeAtoms, encodeSimple, encodeTermRecord, kindOfTerm, simpleSize, termContents, termSize}
-use Rattle.buffer.proofs.LittleEndianLaws.{length-le}
+use Rattle.record.specs.Term.{atomFrom, atomKind, atomNumber, encodeAtom, encodeAtoms, encodeSimple, encodeTermRecord, kindOfTerm, simpleSize, termContents, termSize}
 use Rattle.record.proofs.ReadingLaws.{length-encodeLeaf}
 use Rattle.record.proofs.RecordLaws.{length-encodeRecord}
-use Rattle.record.proofs.TermLaws.{length-encodeAtoms, length-encodeSimple, length-termContents}
+use Rattle.record.proofs.TermLaws.{length-termContents}
 use Rattle.place.specs.Heads.{recordHead}
 use Rattle.place.specs.TermView.{simpleKind}
-use Rattle.place.proofs.HeadsLaws.{encodeRecord-head, length-recordHead}
+use Rattle.place.proofs.HeadsLaws.{encodeRecord-head}
 
 -- ATOMS
 

@@ -1,24 +1,24 @@
 -- A redex changed in place, and parts of a term stored over: the bytes before and after.
 use Prim.Native.Nat.{_*_, _+_, _-_, _≤_, suc, ℕ}
-use mathlib.Core.Path.{ap, refl, sym, _∙_, _≡_}
-use mathlib.Core.List.{_++_, List, [], append-assoc, append-nil}
+use mathlib.Core.Path.{ap, sym, _∙_, _≡_}
+use mathlib.Core.List.{_++_, List, append-assoc}
 use lib.ListN.{drop, length, length-append, length-drop, take, take-append-drop}
 use lib.Seq.{length-take-le}
 use native.Mathlib.Omega.{arith}
 use Rattle.buffer.specs.LittleEndian.{le}
 use Rattle.buffer.specs.Slice.{part, put}
 use Rattle.rules.specs.Syntax.{Atom, Simple, Term, letAll, letOne, num, plain, rec, tuple}
-use Rattle.record.specs.Term.{atomFrom, atomKind, atomNumber, encodeAtom, encodeAtoms, encodeSimple, encodeTermRecord, simpleSize, termSize}
+use Rattle.record.specs.Term.{atomFrom, atomKind, atomNumber, encodeAtom, encodeSimple, encodeTermRecord, simpleSize, termSize}
 use Rattle.buffer.proofs.LittleEndianLaws.{length-le}
 use Rattle.buffer.proofs.SliceLaws.{part-re, put-re}
-use Rattle.record.proofs.TermLaws.{length-encodeAtoms, length-encodeSimple}
+use Rattle.record.proofs.TermLaws.{length-encodeSimple}
 use Rattle.place.specs.Edit.{Cut, lead, leafBytes}
 use Rattle.place.specs.Heads.{recordHead}
 use Rattle.place.proofs.AtLaws.{split-take, take-split}
 use Rattle.place.proofs.EditLaws.{cut-re, length-lead, length-leafBytes, unrolled}
 use Rattle.place.proofs.HeadsLaws.{length-recordHead, put-length}
 use Rattle.place.proofs.ProgramBytesLaws.{encodeLeaf-head}
-use Rattle.place.proofs.TermBytesLaws.{encodeSimple-plain, encodeTermRecord-letAll, encodeTermRecord-letOne, encodeTermRecord-rec, encodeTermRecord-tuple, length-encodeAtom, length-encodeTermRecord, termSize-letOne, termSize-rec, termSize-tuple}
+use Rattle.place.proofs.TermBytesLaws.{encodeSimple-plain, encodeTermRecord-letAll, encodeTermRecord-letOne, encodeTermRecord-rec, length-encodeAtom, length-encodeTermRecord, termSize-letOne, termSize-rec, termSize-tuple}
 
 -- THE PIECES
 

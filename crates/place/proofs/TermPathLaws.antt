@@ -1,7 +1,7 @@
 -- Laws of terms inside the first terms of let-alls: their bytes, the redex, the walk to it, and the reduction there.
-use Prim.Native.Nat.{_*_, _+_, _<_, _≤_, suc, ℕ}
+use Prim.Native.Nat.{_*_, _+_, _<_, _≤_, ℕ}
 use mathlib.Core.Path.{ap, refl, sym, _∙_, _≡_}
-use mathlib.Core.Bool.{_&&_, Bool, false, not, true}
+use mathlib.Core.Bool.{Bool, false, not, true}
 use mathlib.Core.List.{_++_, List, [], append-nil, map, _∷_}
 use borrow.Author.Tests.{eq-eqb, eqb-false, eqb-true, ne-eqb, not-true}
 use lib.Dec.{eqb}
@@ -11,16 +11,16 @@ use Rattle.buffer.specs.LittleEndian.{val}
 use Rattle.buffer.specs.Slice.{part}
 use Rattle.rules.specs.Reduction.{onNext, reduce, reduceInside, valueOf}
 use Rattle.rules.specs.Substitution.{fromStore, substitute}
-use Rattle.rules.specs.Syntax.{Answer, Atom, Simple, Term, finished, letAll, letOne, next, over, rec, tuple}
+use Rattle.rules.specs.Syntax.{Answer, Atom, Term, finished, letAll, letOne, next, over, rec, tuple}
 use Rattle.record.specs.Term.{TermWords, encodeTermRecord, kindOfTerm, termSize}
 use Rattle.rules.proofs.FinishedLaws.{reduce-finished}
 use Rattle.rules.proofs.Tests.{and-both, true-false}
 use Rattle.place.specs.Heads.{recordHead}
 use Rattle.place.specs.Nesting.{Nests, around, heads, plug, rests}
 use Rattle.place.specs.TermPath.{Redex, TermWalk, entersAt, redex, redexLetAll, redexLetOne, redexRec, termPath, terms}
-use Rattle.place.specs.TermView.{LetAllView, TermAt}
+use Rattle.place.specs.TermView.{TermAt}
 use Rattle.place.proofs.NestingLaws.{encode-plug, plug-at, plug-keeps, plug-nil, plug-snoc, size-plug}
-use Rattle.place.proofs.TermBytesLaws.{encodeTermRecord-letAll, kindOfTerm-range, length-encodeTermRecord}
+use Rattle.place.proofs.TermBytesLaws.{encodeTermRecord-letAll, length-encodeTermRecord}
 use Rattle.place.proofs.TermViewLaws.{as-letAll, term-index, term-read, term-room, term-same}
 
 -- BYTES AND SIZES

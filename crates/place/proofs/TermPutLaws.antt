@@ -8,12 +8,11 @@ use Rattle.buffer.specs.LittleEndian.{le}
 use Rattle.buffer.specs.Slice.{put}
 use Rattle.rules.specs.FreeVariables.{atomOfSimple}
 use Rattle.rules.specs.Substitution.{Substitution, substituteAtom, substituteSimple}
-use Rattle.rules.specs.Syntax.{Atom, Simple, Term, letAll, letOne, num, plain, predOf, rec, ref, succOf, tuple}
+use Rattle.rules.specs.Syntax.{Atom, Simple, Term, letAll, letOne, num, plain, predOf, rec, succOf, tuple}
 use Rattle.record.specs.Term.{atomKind, atomNumber, encodeAtom, encodeAtoms, encodeSimple, encodeTermRecord, simpleSize, termSize}
 use Rattle.buffer.proofs.LittleEndianLaws.{length-le}
 use Rattle.record.proofs.TermLaws.{length-encodeAtoms, length-encodeSimple}
 use Rattle.place.specs.At.{At}
-use Rattle.place.specs.Edit.{leafBytes}
 use Rattle.place.specs.Heads.{recordHead}
 use Rattle.place.proofs.AtLaws.{at-same, put-part}
 use Rattle.place.proofs.EditLaws.{put-leaf-kind}

@@ -1,8 +1,8 @@
 -- Laws of the whole record: its bytes around a path, and what a change at the path's end means for every length.
-use Prim.Native.Nat.{_*_, _+_, _-_, _<_, _≤_, suc, ℕ}
+use Prim.Native.Nat.{_*_, _+_, _<_, _≤_, suc, ℕ}
 use mathlib.Core.Path.{ap, refl, sym, _∙_, _≡_}
 use mathlib.Core.List.{_++_, List, [], append-assoc, append-nil, _∷_}
-use lib.ListN.{drop, length, length-append}
+use lib.ListN.{drop, length, length-append, take}
 use lib.Seq.{length-take-le}
 use native.Mathlib.Omega.{arith}
 use Rattle.buffer.specs.LittleEndian.{le, val}
@@ -22,7 +22,7 @@ use Rattle.record.proofs.HeaderLaws.{length-encodeProgram, length-encodeTerm}
 use Rattle.record.proofs.WordsLaws.{block-words, sound-words}
 use Rattle.rules.specs.FreeVariables.{Vars}
 use Rattle.place.specs.At.{At}
-use Rattle.place.specs.Heads.{recordHead, relength, shifted}
+use Rattle.place.specs.Heads.{recordHead, shifted}
 use Rattle.place.specs.Nesting.{Nesting, Nests, around, heads, plug, rests}
 use Rattle.place.specs.Path.{blocks}
 use Rattle.place.specs.ProgramView.{BlockAt}
@@ -31,7 +31,7 @@ use Rattle.place.specs.TermView.{TermAt}
 use Rattle.place.specs.Whole.{blockAt, front, header, programFront, relengthAll, termFront}
 use Rattle.place.proofs.AtLaws.{at-part, split-take, take-split}
 use Rattle.place.proofs.HeadsLaws.{encodeRecord-head, length-at, length-recordHead, length-relength, put-length}
-use Rattle.place.proofs.NestingLaws.{encode-plug, length-heads, plug-nil, relength-path, size-plug}
+use Rattle.place.proofs.NestingLaws.{encode-plug, length-heads, plug-nil, relength-shifted, size-plug}
 use Rattle.place.proofs.PathLaws.{blocks-nest}
 use Rattle.place.proofs.TermPathLaws.{terms-nest}
 
@@ -75,7 +75,7 @@ module _ {T : Type 0} (N : Nesting T) (kind k : ℕ) where
         let hd : List ℕ = recordHead kind b ++ le 4 k in
         let s : put l 0 (le 2 (shifted up down (val (part l 0 2)))) ≡ hd ++ (heads N p n ++ post) =
         rw (v, w) (put-length l [] q 0 kind a b is refl ∙ simp append-assoc) in
-        rw s (relength-path N L up down n m p hd post contentsAt e (simp (length-append, length-recordHead, length-le)) (omega arith) ∙ simp append-assoc)
+        rw s (relength-shifted N L up down n m p hd post contentsAt e (simp (length-append, length-recordHead, length-le)) (omega arith) ∙ simp append-assoc)
 
     -- the tree at the path's end changed from n bytes to those of t, and all lengths brought up to date
     pub headed-relength : (up down n : ℕ) (p : List T) (t : T) (l tail : List ℕ) → l ≡ front N kind k p n ++ (N .encode t ++ (rests N p ++ tail))
@@ -118,12 +118,14 @@ encodeProgram-plug k p b =
     encodeProgram-headed k p b ∙ headed-plug blocks 7 k blocks-nest (empty ∷ p) b
     ∙ ap (λ (y : List ℕ). programFront k p (blockSize b) ++ (encodeBlock b ++ y)) (rests-empty p)
 
-pub encodeProgram-relength : (k up down n : ℕ) (p : List Block) (b : Block) (l tail : List ℕ) → l ≡ programFront k p n ++ (encodeBlock b ++ (rests blocks p ++ tail))
+-- the block at the path's end changed from n bytes to those of b in the first `used` bytes, and all lengths brought up to date
+pub encodeProgram-relength : (k up down n used : ℕ) (p : List Block) (b : Block) (l : List ℕ) → take used l ≡ programFront k p n ++ (encodeBlock b ++ rests blocks p)
     → blockSize b + down ≡ n + up → blockAt + (n + around blocks p) < 65536
-    → relengthAll (shifted up down) (suc (length p)) l ≡ encodeProgram k (plug blocks p b) ++ tail
-encodeProgram-relength k up down n p b l tail is e h =
-    headed-relength blocks 7 k blocks-nest up down n (empty ∷ p) b l tail (rw (rests-empty p) is) e (omega (arith, around-empty p))
-    ∙ ap (λ (y : List ℕ). y ++ tail) (sym (encodeProgram-headed k p b))
+    → relengthAll (shifted up down) (suc (length p)) l ≡ encodeProgram k (plug blocks p b) ++ drop used l
+encodeProgram-relength k up down n used p b l h e s =
+    let is : l ≡ programFront k p n ++ (encodeBlock b ++ (rests blocks p ++ drop used l)) = take-split used l (programFront k p n ++ (encodeBlock b ++ rests blocks p)) h ∙ simp append-assoc in
+    headed-relength blocks 7 k blocks-nest up down n (empty ∷ p) b l (drop used l) (rw (rests-empty p) is) e (omega (arith, around-empty p))
+    ∙ ap (λ (y : List ℕ). y ++ drop used l) (sym (encodeProgram-headed k p b))
 
 -- a record that holds a program, its block at blockAt
 module _ {k : ℕ} {P : Block} {buf : List ℕ} {used : ℕ} (h : ProgramIn k P buf used) where
@@ -169,11 +171,12 @@ length-termFront k p n = length-front terms 40 k p n
 pub encodeTerm-plug : (k : ℕ) (p : List Term) (t : Term) → encodeTerm k (plug terms p t) ≡ termFront k p (4 + termSize t) ++ (encodeTermRecord t ++ rests terms p)
 encodeTerm-plug k p t = encodeTerm-headed k (plug terms p t) ∙ headed-plug terms 40 k terms-nest p t
 
-pub encodeTerm-relength : (k up down n : ℕ) (p : List Term) (t : Term) (l tail : List ℕ) → l ≡ termFront k p n ++ (encodeTermRecord t ++ (rests terms p ++ tail))
+pub encodeTerm-relength : (k up down n used : ℕ) (p : List Term) (t : Term) (l : List ℕ) → take used l ≡ termFront k p n ++ (encodeTermRecord t ++ rests terms p)
     → 4 + termSize t + down ≡ n + up → contentsAt + (n + around terms p) < 65536
-    → relengthAll (shifted up down) (length p) l ≡ encodeTerm k (plug terms p t) ++ tail
-encodeTerm-relength k up down n p t l tail is e h =
-    headed-relength terms 40 k terms-nest up down n p t l tail is e h ∙ ap (λ (y : List ℕ). y ++ tail) (sym (encodeTerm-headed k (plug terms p t)))
+    → relengthAll (shifted up down) (length p) l ≡ encodeTerm k (plug terms p t) ++ drop used l
+encodeTerm-relength k up down n used p t l h e s =
+    let is : l ≡ termFront k p n ++ (encodeTermRecord t ++ (rests terms p ++ drop used l)) = take-split used l (termFront k p n ++ (encodeTermRecord t ++ rests terms p)) h ∙ simp append-assoc in
+    headed-relength terms 40 k terms-nest up down n p t l (drop used l) is e s ∙ ap (λ (y : List ℕ). y ++ drop used l) (sym (encodeTerm-headed k (plug terms p t)))
 
 -- a record that holds a term, at contentsAt
 module _ {S : Vars} {k : ℕ} {t : Term} {buf : List ℕ} {used : ℕ} (h : TermIn S k t buf used) where
