@@ -28,6 +28,11 @@ module _ (l : List ℕ) (p n used : ℕ) (order : p + n ≤ used) (fits : used �
   length-kept : length (take p l ++ moved) ≡ used - n
   length-kept = length-append (take p l) moved ∙ rw (length-take-le p l (omega arith), length-moved) (omega arith)
 
+  -- one move down
+  pub closedUp-is : (q count : ℕ) → q ≡ p + n → count ≡ used - (p + n) → put l p (part l q count) ≡ closedUp l p n used
+  unfolding closedUp
+  closedUp-is q count eq ec = rw (eq, ec)
+
   pub length-closedUp : length (closedUp l p n used) ≡ length l
   unfolding closedUp moved
   length-closedUp = length-put l moved p (rw length-moved (omega arith))

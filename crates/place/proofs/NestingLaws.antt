@@ -15,6 +15,10 @@ module _ {T : Type 0} (N : Nesting T) where
   unfolding plug
   plug-nil t = refl
 
+  pub plug-cons : (r : T) (p : List T) (t : T) → plug N (r ∷ p) t ≡ N .wrap (plug N p t) r
+  unfolding plug
+  plug-cons r p t = refl
+
   -- A PATH IN TWO PARTS
 
   pub plug-append : (p q : List T) (t : T) → plug N (p ++ q) t ≡ plug N p (plug N q t)

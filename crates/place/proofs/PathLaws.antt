@@ -5,7 +5,7 @@ use mathlib.Core.Path.{ap, refl, sym, _∙_, _≡_}
 use mathlib.Core.Bool.{Bool, false, true}
 use mathlib.Core.List.{_++_, List, [], append-nil, _∷_}
 use borrow.Author.Tests.{eq-eqb, eqb-true, le-ltb, lt-ltb, ltb-true, ne-eqb}
-use lib.Dec.{eqb, lit<, ltb}
+use lib.Dec.{eqb, ltb}
 use lib.ListN.{length, length-append}
 use native.Mathlib.Omega.{arith}
 use Rattle.buffer.specs.LittleEndian.{val}
@@ -22,11 +22,9 @@ use Rattle.place.specs.Heads.{recordHead}
 use Rattle.place.specs.Nesting.{Nests, around, heads, plug, rests}
 use Rattle.place.specs.Path.{Spot, Walk, blocks, opensAt, path, plugConfig, spot, spotAssign, spotEmpty, spotLoop}
 use Rattle.place.specs.ProgramView.{BlockAt}
-use Rattle.place.proofs.AtLaws.{at-same}
-use Rattle.place.proofs.HeadsLaws.{kind-at, length-at}
 use Rattle.place.proofs.NestingLaws.{encode-plug, plug-at, plug-keeps, plug-nil, plug-snoc, size-plug}
 use Rattle.place.proofs.ProgramBytesLaws.{blockSize-assign, blockSize-empty, blockSize-loop, blockSize-nest, blockSize-some, encodeBlock-nest}
-use Rattle.place.proofs.ProgramViewLaws.{as-nest, block-index, block-room, block-same}
+use Rattle.place.proofs.ProgramViewLaws.{as-nest, block-index, block-room, block-same, nest-view}
 
 -- BYTES AND SIZES
 
@@ -138,12 +136,8 @@ opens-short l p e h = rw (eq-eqb (val (part l (p + 2) 2)) 1 e, le-ltb 4 (val (pa
 
 -- a block with commands in it passes the test
 opens-nest : (l : List ℕ) (p : ℕ) (c r : Block) → BlockAt l p (nest c r) → 0 < blockSize c → opensAt l p ≡ true
-opens-nest l p c r h s =
-    let k = at-same (h .here) (encodeBlock-nest c r) in
-    let z : 4 + blockSize c + blockSize r < 65536 = rw (← blockSize-nest c r) (h .small) in
-    let e = kind-at 1 (4 + blockSize c) (encodeBlock c ++ encodeBlock r) k (lit< tt) in
-    let n = length-at 1 (4 + blockSize c) (encodeBlock c ++ encodeBlock r) k (omega arith) in
-    opens-yes l p e (omega arith)
+unfolding nest-view
+opens-nest l p c r h s = let v = nest-view c r h in opens-yes l p (v .kind) (rw (v .stored) (omega arith))
 
 pub walk-start : (b : Block) (o : ℕ) → 0 < blockSize b → Walk b o o
 walk-start b o h = record { passed = []; here = b; whole = sym (plug-nil blocks b); place = omega arith; some = h }

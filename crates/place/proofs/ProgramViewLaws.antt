@@ -50,9 +50,9 @@ row-end b p to e = (
 pub row-empty : (b : Block) (p to : ℕ) → p + blockSize b ≡ to → to ≤ p → b ≡ empty
 row-empty b p to e h = blockSize-zero b (omega arith)
 
--- THE FIRST COMMAND
+-- THE FIRST COMMAND, where the tree is known
 
-nest-view : {l : List ℕ} {p : ℕ} (c r : Block) → BlockAt l p (nest c r) → NestView l p (nest c r)
+unfoldable pub nest-view : {l : List ℕ} {p : ℕ} (c r : Block) → BlockAt l p (nest c r) → NestView l p (nest c r)
 nest-view {l} {p} c r h =
     let hd : List ℕ = recordHead 1 (4 + blockSize c) in
     let k : At l p (hd ++ (encodeBlock c ++ encodeBlock r)) = at-same (h .here) (encodeBlock-nest c r) in
@@ -74,13 +74,14 @@ nest-view {l} {p} c r h =
       is = refl;
       size = blockSize-nest c r;
       room = block-room h;
+      kind = kind-at 1 (4 + blockSize c) (encodeBlock c ++ encodeBlock r) k (lit< tt);
       stored = length-at 1 (4 + blockSize c) (encodeBlock c ++ encodeBlock r) k (omega arith);
       inside = inside;
       after = after;
       flat = block-append inside after (omega arith) (omega arith);
     }
 
-assign-view : {l : List ℕ} {p : ℕ} (x : ℕ) (e : Expr) (r : Block) → BlockAt l p (assign x e r) → AssignView l p (assign x e r)
+unfoldable pub assign-view : {l : List ℕ} {p : ℕ} (x : ℕ) (e : Expr) (r : Block) → BlockAt l p (assign x e r) → AssignView l p (assign x e r)
 assign-view {l} {p} x e r h =
     let hd : List ℕ = recordHead 2 16 in
     let k : At l p (hd ++ (le 4 x ++ (encodeExpr e ++ encodeBlock r))) = at-same (h .here) (encodeBlock-assign x e r) in
@@ -96,6 +97,7 @@ assign-view {l} {p} x e r h =
       is = refl;
       size = blockSize-assign x e r;
       room = block-room h;
+      kind = kind-at 2 16 (le 4 x ++ (encodeExpr e ++ encodeBlock r)) k (lit< tt);
       stored = length-at 2 16 (le 4 x ++ (encodeExpr e ++ encodeBlock r)) k (lit< tt);
       variable-read = v .0;
       kind-read = n .0;
@@ -111,7 +113,7 @@ assign-view {l} {p} x e r h =
       };
     }
 
-loop-view : {l : List ℕ} {p : ℕ} (x : ℕ) (m : Bound) (c r : Block) → BlockAt l p (loop x m c r) → LoopView l p (loop x m c r)
+unfoldable pub loop-view : {l : List ℕ} {p : ℕ} (x : ℕ) (m : Bound) (c r : Block) → BlockAt l p (loop x m c r) → LoopView l p (loop x m c r)
 unfolding nest-view
 loop-view {l} {p} x m c r h =
     let hd : List ℕ = recordHead 3 (20 + blockSize c) in
@@ -137,6 +139,7 @@ loop-view {l} {p} x m c r h =
       is = refl;
       size = blockSize-loop x m c r;
       room = block-room h;
+      kind = kind-at 3 (20 + blockSize c) (le 4 x ++ (encodeBound m ++ q)) k (lit< tt);
       stored = length-at 3 (20 + blockSize c) (le 4 x ++ (encodeBound m ++ q)) k (omega arith);
       variable-read = v .0;
       kind-read = n .0;
@@ -151,21 +154,17 @@ loop-view {l} {p} x m c r h =
       flat = block-index {p = p + 16 + 4} {b = append c r} (s .flat) (omega arith);
     }
 
+-- THE FIRST COMMAND, by the kind read
+
 module _ {l : List ℕ} {p : ℕ} {b : Block} (h : BlockAt l p b) (some : 0 < blockSize b) where
-  command-view : CommandView l p b (val (part l (p + 2) 2))
+  pub command-view : CommandView l p b (val (part l (p + 2) 2))
   command-view = go b h some
     where
       go : (c : Block) → BlockAt l p c → 0 < blockSize c → CommandView l p c (val (part l (p + 2) 2))
       go empty k s = absurd (omega (arith, blockSize-empty))
-      go (nest c r) k s =
-          let e = kind-at 1 (4 + blockSize c) (encodeBlock c ++ encodeBlock r) (at-same (k .here) (encodeBlock-nest c r)) (lit< tt) in
-          rw e (firstNest (nest-view c r k))
-      go (assign x e r) k s =
-          let e₁ = kind-at 2 16 (le 4 x ++ (encodeExpr e ++ encodeBlock r)) (at-same (k .here) (encodeBlock-assign x e r)) (lit< tt) in
-          rw e₁ (firstAssign (assign-view x e r k))
-      go (loop x m c r) k s =
-          let e = kind-at 3 (20 + blockSize c) (le 4 x ++ (encodeBound m ++ encodeBlock (nest c r))) (at-same (k .here) (encodeBlock-loop x m c r)) (lit< tt) in
-          rw e (firstLoop (loop-view x m c r k))
+      go (nest c r) k s = let v = nest-view c r k in rw (v .kind) (firstNest v)
+      go (assign x e r) k s = let v = assign-view x e r k in rw (v .kind) (firstAssign v)
+      go (loop x m c r) k s = let v = loop-view x m c r k in rw (v .kind) (firstLoop v)
 
   -- the first command's kind is one of the three
   pub command-kind : (1 ≤ val (part l (p + 2) 2)) × (val (part l (p + 2) 2) ≤ 3)

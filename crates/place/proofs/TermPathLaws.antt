@@ -21,7 +21,7 @@ use Rattle.place.specs.TermPath.{Redex, TermWalk, entersAt, redex, redex
 use Rattle.place.specs.TermView.{TermAt}
 use Rattle.place.proofs.NestingLaws.{encode-plug, plug-at, plug-keeps, plug-nil, plug-snoc, size-plug}
 use Rattle.place.proofs.TermBytesLaws.{encodeTermRecord-letAll, length-encodeTermRecord}
-use Rattle.place.proofs.TermViewLaws.{as-letAll, term-index, term-read, term-room, term-same}
+use Rattle.place.proofs.TermViewLaws.{as-letAll, letAll-view, term-index, term-room, term-same}
 
 -- BYTES AND SIZES
 
@@ -141,14 +141,8 @@ termWalk-start t o = record { passed = []; here = t; whole = sym (plug-nil terms
 
 -- a let-all whose first term is no tuple passes the test
 enters-letAll : {l : List ℕ} {p k : ℕ} (t u : Term) → TermAt l p k (letAll t u) → (kindOfTerm t ≡ 36 → ⊥) → entersAt l p ≡ true
-unfolding kindOfTerm
-enters-letAll {l} {p} t u h ne =
-    let k = term-read h (p + 2) refl .1 in
-    let v = as-letAll h k in
-    enters-yes l p k (λ e. ne (first-is t u (v .first) (v .last) (v .is) ∙ (sym (v .first-kind) ∙ e)))
-  where
-    first-is : (a b c d : Term) → letAll a b ≡ letAll c d → kindOfTerm a ≡ kindOfTerm c
-    first-is a b c d e = let f : a ≡ c = cc in ap kindOfTerm f
+unfolding letAll-view
+enters-letAll {l} {p} t u h ne = let v = letAll-view t u h in enters-yes l p (v .kind) (λ e. ne (sym (v .first-kind) ∙ e))
 
 module _ {l : List ℕ} {o p k : ℕ} {t : Term} (h : TermAt l o k t) (w : TermWalk t o p) where
   -- what stands where the walk is

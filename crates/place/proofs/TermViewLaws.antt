@@ -27,7 +27,7 @@ pub atom-index : {l : List ℕ} {p q : ℕ} {a : Atom} → AtomAt l p a → p �
 atom-index h e = record { here = at-index (h .here) e; words = h .words }
 
 -- what is read, with the places of the kind and of the number named
-atom-read : {l : List ℕ} {p : ℕ} {a : Atom} → AtomAt l p a → (q r : ℕ) → q ≡ p + 2 → r ≡ p + 4
+pub atom-read : {l : List ℕ} {p : ℕ} {a : Atom} → AtomAt l p a → (q r : ℕ) → q ≡ p + 2 → r ≡ p + 4
     → (val (part l q 2) ≡ atomKind a) × (val (part l r 4) ≡ atomNumber a) × (part l r 4 ≡ le 4 (atomNumber a))
 atom-read {l} {p} {a} h q r eq er =
     leaf-read (atomKind a) (atomNumber a) q r (at-same (h .here) (encodeLeaf-head atomKind atomNumber atomFrom a)) eq er (omega (arith, atomKind-range a)) (h .words)
@@ -76,7 +76,7 @@ atoms-nth {l} {p} {ys} h i b = go i p ys h b
     go (suc j) q [] k c = absurd (omega arith)
     go (suc j) q (a ∷ zs) k c = atom-index (go j (q + 8) zs (atoms-first k .1) (omega arith)) (omega arith)
 
--- TERMS
+-- TERMS, where the tree is known
 
 pub term-index : {l : List ℕ} {p q k : ℕ} {t : Term} → TermAt l p k t → p ≡ q → TermAt l q k t
 term-index h e = record { here = at-index (h .here) e; words = h .words; small = h .small }
@@ -95,7 +95,8 @@ term-read {l} {p} {k} {t} h q e =
       rw e (kind-at (kindOfTerm t) (4 + termSize t) (termContents t) r (omega (arith, kindOfTerm-range t))),
     )
 
-tuple-view : {l : List ℕ} {p k : ℕ} (ys : List Atom) → TermAt l p k (tuple ys) → TupleView l p k (tuple ys)
+unfoldable pub tuple-view : {l : List ℕ} {p k : ℕ} (ys : List Atom) → TermAt l p k (tuple ys) → TupleView l p k (tuple ys)
+unfolding kindOfTerm
 tuple-view {l} {p} {k} ys h =
     let c : length ys ≡ k = h .words .0 in
     let z : termSize (tuple ys) ≡ 8 * k = termSize-tuple ys ∙ ap (λ (y : ℕ). 8 * y) c in
@@ -106,6 +107,7 @@ tuple-view {l} {p} {k} ys h =
       is = refl;
       size = z;
       room = term-room h;
+      kind = term-read h (p + 2) refl .1;
       stored = term-read h (p + 2) refl .0 ∙ ap (λ (y : ℕ). 4 + y) z;
       count = c;
       row = record {
@@ -115,7 +117,7 @@ tuple-view {l} {p} {k} ys h =
     }
 
 -- succ or pred of an atom
-of-read : {l : List ℕ} (p kind : ℕ) (a : Atom) → At l (p + 8) (recordHead kind 12 ++ encodeAtom a) → kind < 65536 → AtomWords a
+pub of-read : {l : List ℕ} (p kind : ℕ) (a : Atom) → At l (p + 8) (recordHead kind 12 ++ encodeAtom a) → kind < 65536 → AtomWords a
     → (val (part l (p + 10) 2) ≡ kind) × AtomAt l (p + 12) a
 of-read {l} p kind a h b w =
     let e : p + 8 + 2 ≡ p + 10 = omega arith in (
@@ -124,7 +126,7 @@ of-read {l} p kind a h b w =
     )
 
 -- what a let-one binds: the kind read, and its atom
-simple-read : {l : List ℕ} (p : ℕ) (s : Simple) → At l (p + 8) (encodeSimple s) → AtomWords (atomOfSimple s)
+pub simple-read : {l : List ℕ} (p : ℕ) (s : Simple) → At l (p + 8) (encodeSimple s) → AtomWords (atomOfSimple s)
     → (val (part l (p + 10) 2) ≡ simpleKind s) × AtomAt l (p + simpleSize s) (atomOfSimple s)
 unfolding simpleKind simpleSize
 simple-read {l} p (plain a) h w =
@@ -133,7 +135,8 @@ simple-read {l} p (plain a) h w =
 simple-read {l} p (succOf a) h w = of-read p 34 a (at-same h (encodeSimple-succ a)) (lit< tt) w
 simple-read {l} p (predOf a) h w = of-read p 35 a (at-same h (encodeSimple-pred a)) (lit< tt) w
 
-letOne-view : {l : List ℕ} {p k : ℕ} (x : ℕ) (s : Simple) (t : Term) → TermAt l p k (letOne x s t) → LetOneView l p k (letOne x s t)
+unfoldable pub letOne-view : {l : List ℕ} {p k : ℕ} (x : ℕ) (s : Simple) (t : Term) → TermAt l p k (letOne x s t) → LetOneView l p k (letOne x s t)
+unfolding kindOfTerm
 letOne-view {l} {p} {k} x s t h =
     let n : ℕ = simpleSize s in
     let hd : List ℕ = recordHead 37 (12 + n + termSize t) in
@@ -151,6 +154,7 @@ letOne-view {l} {p} {k} x s t h =
       is = refl;
       size = z;
       room = term-room h;
+      kind = term-read h (p + 2) refl .1;
       stored = term-read h (p + 2) refl .0 ∙ omega arith;
       variable-read = v .0;
       variable-bytes = v .1;
@@ -165,7 +169,8 @@ letOne-view {l} {p} {k} x s t h =
       };
     }
 
-letAll-view : {l : List ℕ} {p k : ℕ} (s t : Term) → TermAt l p k (letAll s t) → LetAllView l p k (letAll s t)
+unfoldable pub letAll-view : {l : List ℕ} {p k : ℕ} (s t : Term) → TermAt l p k (letAll s t) → LetAllView l p k (letAll s t)
+unfolding kindOfTerm
 letAll-view {l} {p} {k} s t h =
     let hd : List ℕ = recordHead 38 (12 + termSize s + termSize t) in
     let lh : length hd ≡ 4 = length-recordHead 38 (12 + termSize s + termSize t) in
@@ -184,6 +189,7 @@ letAll-view {l} {p} {k} s t h =
       is = refl;
       size = z;
       room = term-room h;
+      kind = term-read h (p + 2) refl .1;
       stored = term-read h (p + 2) refl .0 ∙ omega arith;
       first-stored = f .0;
       first-kind = f .1;
@@ -196,8 +202,8 @@ letAll-view {l} {p} {k} s t h =
       };
     }
 
-rec-view : {l : List ℕ} {p k : ℕ} (x : ℕ) (a : Atom) (ys : List Atom) (t : Term) → TermAt l p k (rec x a ys t) → RecView l p k (rec x a ys t)
-unfolding tuple-view
+unfoldable pub rec-view : {l : List ℕ} {p k : ℕ} (x : ℕ) (a : Atom) (ys : List Atom) (t : Term) → TermAt l p k (rec x a ys t) → RecView l p k (rec x a ys t)
+unfolding tuple-view kindOfTerm
 rec-view {l} {p} {k} x a ys t h =
     let N : ℕ = 24 + 8 * length ys + termSize t in
     let hd : List ℕ = recordHead 39 N in
@@ -228,6 +234,7 @@ rec-view {l} {p} {k} x a ys t h =
       is = refl;
       size = z;
       room = term-room h;
+      kind = term-read h (p + 2) refl .1;
       stored = term-read h (p + 2) refl .0 ∙ omega arith;
       variable-read = v .0;
       variable-bytes = v .1;
@@ -246,16 +253,17 @@ rec-view {l} {p} {k} x a ys t h =
       };
     }
 
+-- TERMS, by the kind read
+
 module _ {l : List ℕ} {p k : ℕ} {t : Term} (h : TermAt l p k t) where
-  term-view : TermView l p k t (val (part l (p + 2) 2))
-  unfolding kindOfTerm
-  term-view = go t h (term-read h (p + 2) refl .1)
+  pub term-view : TermView l p k t (val (part l (p + 2) 2))
+  term-view = go t h
     where
-      go : (u : Term) → TermAt l p k u → val (part l (p + 2) 2) ≡ kindOfTerm u → TermView l p k u (val (part l (p + 2) 2))
-      go (tuple ys) s e = rw e (isTupleAt (tuple-view ys s))
-      go (letOne x b u) s e = rw e (isLetOneAt (letOne-view x b u s))
-      go (letAll u v) s e = rw e (isLetAllAt (letAll-view u v s))
-      go (rec x a ys u) s e = rw e (isRecAt (rec-view x a ys u s))
+      go : (u : Term) → TermAt l p k u → TermView l p k u (val (part l (p + 2) 2))
+      go (tuple ys) s = let v = tuple-view ys s in rw (v .kind) (isTupleAt v)
+      go (letOne x b u) s = let v = letOne-view x b u s in rw (v .kind) (isLetOneAt v)
+      go (letAll u w) s = let v = letAll-view u w s in rw (v .kind) (isLetAllAt v)
+      go (rec x a ys u) s = let v = rec-view x a ys u s in rw (v .kind) (isRecAt v)
 
   -- the term's kind is one of the four
   pub term-kind : (36 ≤ val (part l (p + 2) 2)) × (val (part l (p + 2) 2) ≤ 39)
@@ -316,6 +324,7 @@ module _ {l : List ℕ} {p k : ℕ} {t : Term} (h : TermAt l p k t) where
           is = v .is ∙ ap (λ (y : Simple). letOne (v .variable) y (v .last)) b;
           size = v .size ∙ omega arith;
           room = v .room;
+          kind = v .kind;
           stored = v .stored ∙ omega arith;
           variable-read = v .variable-read;
           variable-bytes = v .variable-bytes;
@@ -338,6 +347,7 @@ module _ {l : List ℕ} {p k : ℕ} {t : Term} (h : TermAt l p k t) where
           is = v .is ∙ ap (λ (y : Simple). letOne (v .variable) y (v .last)) b;
           size = v .size ∙ omega arith;
           room = v .room;
+          kind = v .kind;
           stored = v .stored ∙ omega arith;
           variable-read = v .variable-read;
           variable-bytes = v .variable-bytes;

@@ -22,7 +22,7 @@ use Rattle.record.proofs.HeaderLaws.{length-encodeProgram, length-encodeTerm}
 use Rattle.record.proofs.WordsLaws.{block-words, sound-words}
 use Rattle.rules.specs.FreeVariables.{Vars}
 use Rattle.place.specs.At.{At}
-use Rattle.place.specs.Heads.{recordHead, shifted}
+use Rattle.place.specs.Heads.{recordHead, relength, shifted}
 use Rattle.place.specs.Nesting.{Nesting, Nests, around, heads, plug, rests}
 use Rattle.place.specs.Path.{blocks}
 use Rattle.place.specs.ProgramView.{BlockAt}
@@ -83,6 +83,11 @@ module _ {T : Type 0} (N : Nesting T) (kind k : ℕ) where
         → relengthAll (shifted up down) (length p) l ≡ headed kind k (N .encode (plug N p t)) ++ tail
     headed-relength up down n p t l tail is e h =
         rw (is, headed-plug p t) (relengthAll-front up down n (N .size t) p (N .encode t ++ (rests N p ++ tail)) e h ∙ simp append-assoc)
+
+-- the header's length first, and then those of the contents
+pub relengthAll-is : (f : ℕ → ℕ) (count : ℕ) (l : List ℕ) → relength f count contentsAt (put l 0 (le 2 (f (val (part l 0 2))))) ≡ relengthAll f count l
+unfolding relengthAll
+relengthAll-is f count l = refl
 
 pub length-relengthAll : (f : ℕ → ℕ) (count : ℕ) (l : List ℕ) → contentsAt + 4 * count ≤ length l → length (relengthAll f count l) ≡ length l
 unfolding relengthAll

@@ -29,6 +29,7 @@ pub record NestView (l : List ℕ) (p : ℕ) (b : Block) : Type 0 where
   pub is : b ≡ nest body rest
   pub size : blockSize b ≡ 4 + blockSize body + blockSize rest
   pub room : p + blockSize b ≤ length l
+  pub kind : val (part l (p + 2) 2) ≡ 1
   pub stored : val (part l p 2) ≡ 4 + blockSize body
   pub inside : BlockAt l (p + 4) body
   pub after : BlockAt l (p + (4 + blockSize body)) rest
@@ -42,6 +43,7 @@ pub record AssignView (l : List ℕ) (p : ℕ) (b : Block) : Type 0 where
   pub is : b ≡ assign variable expr rest
   pub size : blockSize b ≡ 16 + blockSize rest
   pub room : p + blockSize b ≤ length l
+  pub kind : val (part l (p + 2) 2) ≡ 2
   pub stored : val (part l p 2) ≡ 16
   pub variable-read : val (part l (p + 4) 4) ≡ variable
   pub kind-read : val (part l (p + 10) 2) ≡ exprKind expr
@@ -60,6 +62,7 @@ pub record LoopView (l : List ℕ) (p : ℕ) (b : Block) : Type 0 where
   pub is : b ≡ loop variable bound body rest
   pub size : blockSize b ≡ 20 + blockSize body + blockSize rest
   pub room : p + blockSize b ≤ length l
+  pub kind : val (part l (p + 2) 2) ≡ 3
   pub stored : val (part l p 2) ≡ 20 + blockSize body
   pub variable-read : val (part l (p + 4) 4) ≡ variable
   pub kind-read : val (part l (p + 10) 2) ≡ boundKind bound

@@ -30,8 +30,7 @@ pub record AtomView (l : List ℕ) (p : ℕ) (a : Atom) : Type 0 where
   pub number-read : val (part l (p + 4) 4) ≡ atomNumber a
   pub number-bytes : part l (p + 4) 4 ≡ le 4 (atomNumber a)
 
--- WHAT A LET-ONE BINDS: its kind is the atom's, or 34, or 35
-
+-- The kind of what a let-one binds: the atom's own, or that of succ or pred.
 unfoldable pub simpleKind : Simple → ℕ
 simpleKind (plain a) = atomKind a
 simpleKind (succOf a) = 34
@@ -51,6 +50,7 @@ pub record TupleView (l : List ℕ) (p k : ℕ) (t : Term) : Type 0 where
   pub is : t ≡ tuple atoms
   pub size : termSize t ≡ 8 * k
   pub room : p + (4 + termSize t) ≤ length l
+  pub kind : val (part l (p + 2) 2) ≡ 36
   pub stored : val (part l p 2) ≡ 4 + 8 * k
   pub count : length atoms ≡ k
   pub row : AtomsAt l (p + 4) atoms
@@ -63,6 +63,7 @@ pub record LetOneView (l : List ℕ) (p k : ℕ) (t : Term) : Type 0 where
   pub is : t ≡ letOne variable bound last
   pub size : termSize t ≡ 8 + simpleSize bound + termSize last
   pub room : p + (4 + termSize t) ≤ length l
+  pub kind : val (part l (p + 2) 2) ≡ 37
   pub stored : val (part l p 2) ≡ 12 + simpleSize bound + termSize last
   pub variable-read : val (part l (p + 4) 4) ≡ variable
   pub variable-bytes : part l (p + 4) 4 ≡ le 4 variable
@@ -79,6 +80,7 @@ pub record LetAtomView (l : List ℕ) (p k : ℕ) (t : Term) : Type 0 where
   pub is : t ≡ letOne variable (plain atom) last
   pub size : termSize t ≡ 16 + termSize last
   pub room : p + (4 + termSize t) ≤ length l
+  pub kind : val (part l (p + 2) 2) ≡ 37
   pub stored : val (part l p 2) ≡ 20 + termSize last
   pub variable-read : val (part l (p + 4) 4) ≡ variable
   pub variable-bytes : part l (p + 4) 4 ≡ le 4 variable
@@ -96,6 +98,7 @@ pub record LetOfView (make : Atom → Simple) (l : List ℕ) (p k : ℕ) (t : Te
   pub is : t ≡ letOne variable (make atom) last
   pub size : termSize t ≡ 20 + termSize last
   pub room : p + (4 + termSize t) ≤ length l
+  pub kind : val (part l (p + 2) 2) ≡ 37
   pub stored : val (part l p 2) ≡ 24 + termSize last
   pub variable-read : val (part l (p + 4) 4) ≡ variable
   pub variable-bytes : part l (p + 4) 4 ≡ le 4 variable
@@ -112,6 +115,7 @@ pub record LetAllView (l : List ℕ) (p k : ℕ) (t : Term) : Type 0 where
   pub is : t ≡ letAll first last
   pub size : termSize t ≡ 8 + termSize first + termSize last
   pub room : p + (4 + termSize t) ≤ length l
+  pub kind : val (part l (p + 2) 2) ≡ 38
   pub stored : val (part l p 2) ≡ 12 + termSize first + termSize last
   pub first-stored : val (part l (p + 4) 2) ≡ 4 + termSize first
   pub first-kind : val (part l (p + 6) 2) ≡ kindOfTerm first
@@ -127,6 +131,7 @@ pub record RecView (l : List ℕ) (p k : ℕ) (t : Term) : Type 0 where
   pub is : t ≡ rec variable count start body
   pub size : termSize t ≡ 20 + 8 * k + termSize body
   pub room : p + (4 + termSize t) ≤ length l
+  pub kind : val (part l (p + 2) 2) ≡ 39
   pub stored : val (part l p 2) ≡ 24 + 8 * k + termSize body
   pub variable-read : val (part l (p + 4) 4) ≡ variable
   pub variable-bytes : part l (p + 4) 4 ≡ le 4 variable
@@ -158,6 +163,7 @@ unfoldable pub termsSize : List Term → ℕ
 termsSize [] = 0
 termsSize (t ∷ ts) = 4 + termSize t + termsSize ts
 
+-- Each has its numbers in 4 bytes, and tuples of k atoms.
 abbrev pub TermsWords : ℕ → List Term → Type 0
 TermsWords k [] = Unit {0}
 TermsWords k (t ∷ ts) = TermWords k t × TermsWords k ts
