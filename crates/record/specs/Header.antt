@@ -21,8 +21,12 @@ kindField r = val (take 2 (drop 2 r))
 unfoldable pub kField : List ℕ → ℕ
 kField r = val (take 4 (drop 4 r))
 
+-- Where the contents start: behind length, kind and k.
+abbrev pub contentsAt : ℕ
+contentsAt = 8
+
 unfoldable pub contents : List ℕ → List ℕ
-contents r = drop 8 r
+contents r = drop contentsAt r
 
 -- The record of a kind with k and contents.
 unfoldable pub headed : ℕ → ℕ → List ℕ → List ℕ

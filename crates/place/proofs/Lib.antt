@@ -1,0 +1,14 @@
+pub mod AtLaws
+pub mod HeadsLaws
+pub mod NestingLaws
+pub mod ProgramBytesLaws
+pub mod ProgramViewLaws
+pub mod TermBytesLaws
+pub mod TermViewLaws
+pub mod PathLaws
+pub mod TermPathLaws
+pub mod WholeLaws
+pub mod EditLaws
+pub mod ProgramEditLaws
+pub mod TermEditLaws
+pub mod TermPutLaws
