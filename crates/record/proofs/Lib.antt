@@ -1,5 +1,7 @@
+pub mod ClassLaws
 pub mod RecordLaws
 pub mod ReadingLaws
+pub mod FrontLaws
 pub mod FixLaws
 pub mod ProgramLaws
 pub mod TermLaws
