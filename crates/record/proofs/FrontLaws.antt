@@ -152,6 +152,10 @@ module _ (kind : ℕ) (l : List ℕ) where
   unfolding isOnly isNone
   isOnly-no h = rw (alone-no (λ f e. h f)) refl
 
+  pub isOnly-got : (b : List ℕ) → sub kind l ≡ got b [] → isOnly kind l ≡ true
+  unfolding isOnly isNone
+  isOnly-got b e = rw (only-got (sub kind l) b e) refl
+
   pub isOnly-some : isOnly kind l ≡ true → only (sub kind l) ≡ some (drop 4 l)
   unfolding isOnly
   isOnly-some e =

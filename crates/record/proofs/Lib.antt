@@ -2,8 +2,11 @@ pub mod ClassLaws
 pub mod RecordLaws
 pub mod ReadingLaws
 pub mod FrontLaws
+pub mod BetweenLaws
+pub mod LeafLaws
 pub mod FixLaws
 pub mod ProgramLaws
+pub mod ProgramReadLaws
 pub mod TermLaws
 pub mod HeaderLaws
 pub mod WordsLaws
