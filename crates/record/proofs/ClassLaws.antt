@@ -1,11 +1,12 @@
 -- The class of a kind by ranges: the kinds of a class's list stand in a row, but for a program's 7.
 use Prim.Native.Nat.{_+_, _<_, suc, zero, ℕ, _≤_}
-use mathlib.Core.Path.{_≡_, refl, _≡_}
+use mathlib.Core.Path.{refl, sym, _∙_, _≡_}
 use mathlib.Core.Bool.{Bool, false, true, _||_}
 use mathlib.Core.List.{List, [], _∷_}
-use borrow.Author.Tests.{eqb-false, ne-eqb}
+use borrow.Author.Tests.{eqb-false, eqb-true, ne-eqb}
 use lib.Dec.{eqb}
 use native.Mathlib.Omega.{arith}
+use Rattle.rules.proofs.Tests.{true-false}
 use Rattle.record.specs.declared.Class.the-variants.{Expression, Malformed, Program, Term}
 use Rattle.record.specs.Class.{among, classBy, classOf, expressionKinds, programKinds, termKinds}
 
@@ -28,6 +29,16 @@ module _ (k : ℕ) where
   unfolding among
   run-lacks lo zero h = refl
   run-lacks lo (suc n) h = rw (ne-eqb k lo (λ e. h (omega arith) (omega arith))) (run-lacks (suc lo) n (λ a b. h (omega arith) (omega arith)))
+
+  run-range : (lo n : ℕ) → among (run lo n) k ≡ true → (lo ≤ k) × (k < lo + n)
+  unfolding among
+  run-range lo zero e = true-false (sym e)
+  run-range lo (suc n) e = go (eqb k lo) refl e (run-range (suc lo) n)
+    where
+      go : (t : Bool) → eqb k lo ≡ t → (t || among (run (suc lo) n) k) ≡ true
+          → (among (run (suc lo) n) k ≡ true → (suc lo ≤ k) × (k < suc lo + n)) → (lo ≤ k) × (k < lo + suc n)
+      go true q f next = let h = eqb-true k lo q in (omega arith, omega arith)
+      go false q f next = let h = next f in (omega arith, omega arith)
 
   -- THE CLASSES
 
@@ -71,3 +82,13 @@ module _ (k : ℕ) where
         term-kinds,
         run-lacks 32 9 (λ x y. d x (omega arith)),
       ) refl
+
+  pub expression-range : classOf k ≡ Expression → (16 ≤ k) × (k ≤ 19)
+  unfolding classOf classBy
+  expression-range e = go (among programKinds k) (among expressionKinds k) (among termKinds k) refl e
+    where
+      go : (a b c : Bool) → among expressionKinds k ≡ b → classBy a b c ≡ Expression → (16 ≤ k) × (k ≤ 19)
+      go true b c q f = absurd (let z : _≡_ {A = ℕ} 0 1 = cc in omega arith)
+      go false true c q f = let h = run-range 16 4 (sym expression-kinds ∙ q) in (h .0, omega (arith, h .1))
+      go false false true q f = absurd (let z : _≡_ {A = ℕ} 0 1 = cc in omega arith)
+      go false false false q f = absurd (let z : _≡_ {A = ℕ} 0 1 = cc in omega arith)

@@ -7,6 +7,7 @@ pub mod LeafLaws
 pub mod FixLaws
 pub mod ProgramLaws
 pub mod ProgramReadLaws
+pub mod ExpressionReadLaws
 pub mod TermLaws
 pub mod HeaderLaws
 pub mod WordsLaws
