@@ -1,16 +1,19 @@
 -- What a block's contents decode to by what stands first in them: one law for each way out of code that reads them.
 use Prim.Native.Nat.{_+_, _-_, _<_, suc, zero, ℕ, _≤_}
 use mathlib.Core.Path.{_≡_, ap, refl, sym, _∙_, _≡_}
-use mathlib.Core.Bool.{true}
+use mathlib.Core.Bool.{_&&_, and-assoc, false, true}
 use mathlib.Core.List.{List, [], _∷_}
 use mathlib.Core.Option.{Option, none, some}
 use lib.ListN.{drop, length, length-drop, take}
 use lib.Seq.{drop-drop, length-take-le, take-all}
 use native.Mathlib.Omega.{arith}
 use Rattle.buffer.specs.Slice as slice
+use Rattle.rules.specs.Scope.{blockInRange, exprInRange, inRange}
 use Rattle.rules.specs.Syntax.{Block, Bound, Expr, assign, empty, loop, nest}
+use Rattle.rules.proofs.Tests.{true-false}
 use Rattle.record.specs.Command.{appendBlock, joined, oneAssign, oneLoop, oneNest}
 use Rattle.record.specs.Front.{Front, isOnly, only, u16, u32}
+use Rattle.record.specs.Header.{blockIn}
 use Rattle.record.specs.Program.{CommandKind, boundFrom, boundKind, boundNumber, commandKind, decodeBlock, decodeBlockPart, decodeBlockStep, decodeCommand, exprFrom, exprKind, exprNumber, isAssign, isBlock, isLoop, notCommand, readBound, readExpr}
 use Rattle.record.specs.Reading.{Got, atEnd, bind, fail, fromSome, got, sub, then, word}
 use Rattle.record.specs.Record.{bad, part, split}
@@ -175,3 +178,26 @@ module _ (l : List ℕ) (whole : Front l (length l)) where
       go (suc (suc zero)) e = absurd (b e)
       go (suc (suc (suc zero))) e = absurd (c e)
       go (suc (suc (suc (suc k)))) e = decode-kind (suc (suc (suc (suc k)))) e
+
+-- THE CONTENTS OF A PROGRAM: one block, and nothing after it
+
+module _ (c : List ℕ) where
+  pub blockIn-only : isOnly 1 c ≡ true → blockIn c ≡ decodeBlock (drop 4 c)
+  unfolding blockIn then atEnd
+  blockIn-only o = rw (only-inv (sub 1 c) (drop 4 c) (isOnly-some 1 c o)) refl
+
+  pub blockIn-not : isOnly 1 c ≡ false → blockIn c ≡ none
+  unfolding blockIn
+  blockIn-not o = none-unless (blockIn c) λ t e.
+      then-inv (sub 1 c) _ t e λ b r e₁ f₁.
+      atEnd-inv r _ t f₁ λ n f₂.
+      true-false (sym (isOnly-got 1 c b (e₁ ∙ ap (got b) n)) ∙ o)
+
+-- VARIABLE NUMBERS
+
+pub append-range : (k : ℕ) (p q : Block) → blockInRange k (appendBlock p q) ≡ (blockInRange k p && blockInRange k q)
+unfolding appendBlock blockInRange
+append-range k empty q = refl
+append-range k (assign x e r) q = rw (append-range k r q) (simp and-assoc)
+append-range k (loop x b body r) q = rw (append-range k r q) (simp and-assoc)
+append-range k (nest b r) q = rw (append-range k r q) (simp and-assoc)

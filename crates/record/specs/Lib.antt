@@ -9,5 +9,6 @@ pub mod Rows
 pub mod Answers
 pub mod Front
 pub mod Command
+pub mod HeaderRows
 pub mod Holding
 pub mod RowMeaning
