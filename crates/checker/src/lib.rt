@@ -1,4 +1,6 @@
 // The checker: rows 1 to 5 of the table of refusals over lent bytes. This file has what programs and terms share.
+pub mod program;
+
 ghost use mathlib.Core.Path.{_≡_};
 ghost use Rattle.rules.specs.Scope.{inRange};
 ghost use Rattle.record.specs.Answers.{checkedBy};

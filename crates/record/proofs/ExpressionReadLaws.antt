@@ -10,7 +10,9 @@ use lib.ListN.{length}
 use native.Mathlib.Omega.{arith}
 use Rattle.rules.specs.Scope.{boundInRange, exprInRange, inRange}
 use Rattle.rules.specs.Syntax.{Bound, Expr, dec, inc, lit, upto, uptoVar, var}
-use Rattle.record.specs.declared.Class.the-variants.{Expression}
+use Rattle.rules.proofs.Tests.{true-false}
+use Rattle.record.specs.declared.Class.{Class}
+use Rattle.record.specs.declared.Class.the-variants.{Expression, Malformed, Program, Term}
 use Rattle.record.specs.Class.{classOf}
 use Rattle.record.specs.Front.{only, u16, u32}
 use Rattle.record.specs.Program.{boundFrom, boundKind, boundNumber, exprFrom, exprKind, exprNumber, readBound, readExpr}
@@ -22,6 +24,12 @@ use Rattle.record.proofs.ProgramLaws.{boundFrom-inv, exprFrom-inv}
 use Rattle.record.proofs.ReadingLaws.{leaf-parts}
 
 -- BY KIND AND NUMBER
+
+abbrev pub isExpression : Class → Bool
+isExpression Program = false
+isExpression Expression = true
+isExpression Term = false
+isExpression Malformed = false
 
 expr-class : (e : Expr) → classOf (exprKind e) ≡ Expression
 unfolding exprKind
@@ -81,10 +89,11 @@ module _ (l : List ℕ) where
   pub expr-no-length : (u16 l 0 ≡ 8 → ⊥) → only (readExpr l) ≡ none
   expr-no-length h = leaf-only-not exprKind exprNumber exprFrom l h
 
-  pub expr-no-class : (classOf (u16 l 2) ≡ Expression → ⊥) → only (readExpr l) ≡ none
-  expr-no-class h = none-unless (only (readExpr l)) λ e q.
-      let p = leaf-parts exprKind exprNumber exprFrom l e [] (only-inv (readExpr l) e q) in
-      h (ap classOf (sym (split-kind l (p .0) (p .1) [] (p .3)) ∙ exprFrom-inv (p .0) (p .2) e (p .5) .0) ∙ expr-class e)
+  pub expr-no-class : (c : Class) → classOf (u16 l 2) ≡ c → isExpression c ≡ false → only (readExpr l) ≡ none
+  expr-no-class c q h = none-unless (only (readExpr l)) λ e f.
+      let p = leaf-parts exprKind exprNumber exprFrom l e [] (only-inv (readExpr l) e f) in
+      let k : u16 l 2 ≡ exprKind e = sym (split-kind l (p .0) (p .1) [] (p .3)) ∙ exprFrom-inv (p .0) (p .2) e (p .5) .0 in
+      true-false (sym (ap isExpression (sym q ∙ ap classOf k ∙ expr-class e)) ∙ h)
 
   pub bound-no-kind : 17 < u16 l 2 → only (readBound l) ≡ none
   unfolding boundKind

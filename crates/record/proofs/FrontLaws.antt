@@ -156,13 +156,19 @@ module _ (kind : ℕ) (l : List ℕ) where
   unfolding isOnly isNone
   isOnly-got b e = rw (only-got (sub kind l) b e) refl
 
-  pub isOnly-some : isOnly kind l ≡ true → only (sub kind l) ≡ some (drop 4 l)
+  isOnly-found : isOnly kind l ≡ true → Front l (length l) × (u16 l 2 ≡ kind)
   unfolding isOnly
-  isOnly-some e =
+  isOnly-found e =
       let o = is-some (only (sub kind l)) (not-true (isNone (only (sub kind l))) e) in
       let s = sub-part kind l (o .0) [] (only-inv (sub kind l) (o .0) (o .1)) in
       let len : 4 + length (o .0) ≡ length l = omega (arith, split-length l kind (o .0) [] s) in
-      alone-yes (rw len at (split-front l kind (o .0) [] s)) (sym (split-kind l kind (o .0) [] s))
+      (rw len at (split-front l kind (o .0) [] s), sym (split-kind l kind (o .0) [] s))
+
+  pub isOnly-front : isOnly kind l ≡ true → Front l (length l)
+  isOnly-front e = isOnly-found e .0
+
+  pub isOnly-some : isOnly kind l ≡ true → only (sub kind l) ≡ some (drop 4 l)
+  isOnly-some e = let f = isOnly-found e in alone-yes (f .0) (f .1)
 
   pub isOnly-none : isOnly kind l ≡ false → only (sub kind l) ≡ none
   unfolding isOnly isNone
