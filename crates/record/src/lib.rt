@@ -1,5 +1,7 @@
 // The record layer's code: what class a record is of, and what record stands first in a slice.
 ghost use mathlib.Core.Path.{_≡_};
+ghost use Prim.Native.Nat.{_≤_};
+ghost use lib.ListN.{length};
 ghost use Rattle.record.specs.Class.{classOf};
 ghost use Rattle.record.specs.Front.{firstLength, isOnly};
 
@@ -24,9 +26,9 @@ pub fn class_of(kind: usize) -> Class
     }
 }
 
-// How long the record is that stands first in s; 0 where none does.
+// How long the record is that stands first in s; 0 where none does. The bound spares callers a law.
 pub fn first_length(s: &[u8]) -> usize
-    ensures { λ r. ⌜ r ≡ firstLength (now (s .entry)) ⌝ }
+    ensures { λ r. ⌜ (r ≡ firstLength (now (s .entry))) × (r ≤ length (now (s .entry))) ⌝ }
 {
     if s.len() < 4 {
         return 0;

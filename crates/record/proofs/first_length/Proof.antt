@@ -10,7 +10,7 @@ use Rattle.record.proofs.FrontLaws.{first-no, first-yes}
 
 -- src/lib.rt:32:9
 returns : tie.Need-returns
-returns c = sym (first-no (c .before .before .args .s .now) (λ x y. omega arith))
+returns c = (sym (first-no (c .before .before .args .s .now) (λ x y. omega arith)), omega arith)
 
 -- src/lib.rt:34:9
 get-u16-requires : tie.Need-get-u16-requires
@@ -18,16 +18,17 @@ get-u16-requires c κs = search needs
 
 -- src/lib.rt:36:9
 returns-2 : tie.Need-returns-2
-returns-2 c = sym (first-no (c .before .before .before .before .args .s .now) (λ x y. omega arith))
+returns-2 c = (sym (first-no (c .before .before .before .before .args .s .now) (λ x y. omega arith)), omega arith)
 
 -- src/lib.rt:39:9
 returns-3 : tie.Need-returns-3
-returns-3 c = sym (first-no (c .before .before .before .before .before .args .s .now) (λ x y. omega arith))
+returns-3 c =
+    (sym (first-no (c .before .before .before .before .before .args .s .now) (λ x y. omega arith)), omega arith)
 
 -- src/lib.rt:28:1
 returns-4 : tie.Need-returns-4
 returns-4 c =
-    sym (first-yes (c .before .before .before .before .before .args .s .now) (c .before .before .get-u16 .result) (record { least = omega arith; most = omega arith; stored = omega arith }))
+    (sym (first-yes (c .before .before .before .before .before .args .s .now) (c .before .before .get-u16 .result) (record { least = omega arith; most = omega arith; stored = omega arith })), omega arith)
 
 pub first-length-spec : {M : Type 1} → statement M
 first-length-spec = tie.close (tie.spec returns get-u16-requires returns-2 returns-3 returns-4)
