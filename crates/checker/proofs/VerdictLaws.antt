@@ -2,11 +2,13 @@
 use Prim.Native.Nat.{ℕ}
 use mathlib.Core.Path.{ap, refl, sym, _∙_, _≡_}
 use mathlib.Core.Bool.{Bool, false, true}
+use mathlib.Core.Option.{Option, none, some}
 use Rattle.rules.specs.Scope.{Within, inRange}
 use Rattle.rules.proofs.ScopeLaws.{inRange-within}
+use Rattle.record.specs.HeaderRows.{contentsRow, rangeRow}
 use Rattle.checker.specs.declared.Verdict.{Verdict}
 use Rattle.checker.specs.declared.Verdict.the-variants.{Good, Malformed, Outside}
-use Rattle.checker.specs.Verdict.{worse}
+use Rattle.checker.specs.Verdict.{numberOf, rated, verdict, worse}
 
 pub not-inRange : (k x : ℕ) → (Within k x → ⊥) → inRange k x ≡ false
 not-inRange k x h = go (inRange k x) refl
@@ -42,3 +44,13 @@ worse-assoc Outside Malformed c = refl
 worse-assoc Outside Outside Good = refl
 worse-assoc Outside Outside Outside = refl
 worse-assoc Outside Outside Malformed = refl
+
+-- THE NUMBER OF A VERDICT is that of the first of rows 4 and 5 that applies
+
+pub number-verdict : {A : Type 0} (p : A → Bool) (o : Option A) → numberOf (verdict p o) ≡ contentsRow p o
+number-verdict p none = refl
+number-verdict p (some a) = go (p a)
+  where
+    go : (b : Bool) → numberOf (rated b) ≡ rangeRow b
+    go true = refl
+    go false = refl

@@ -14,7 +14,7 @@ use Rattle.rules.specs.Scope.{Within, blockInRange, termInRange}
 use Rattle.record.specs.Answers.{checkProgram, checkProgramRows, checkTerm, checkTermRows, checkedBy}
 use Rattle.record.specs.Front.{u16, u32}
 use Rattle.record.specs.Header.{blockIn, contents, kField, kindField, lengthField, termIn}
-use Rattle.record.specs.HeaderRows.{contentsRow, headerRow, headerRows}
+use Rattle.record.specs.HeaderRows.{contentsRow, headerRow, headerRows, rangeRow}
 use Rattle.record.specs.Rows.{NoRow, Row, badBlock, badBuffer, badHeader, badK, badTerm, blockOf, blockOutside, firstRow, holds, isNone, kOf, pickRow, row, termOf, termOutside}
 use Rattle.record.proofs.AnswerLaws.{checked-refused}
 use Rattle.record.proofs.BetweenLaws.{between, drop-take}
@@ -116,11 +116,11 @@ module _ (kind : ℕ) (buf : List ℕ) (used : ℕ) where
 -- ROWS 4 AND 5
 
 rows-contents : {A : Type 0} (p : A → Bool) (o : Option A) → firstRow (row 4 (isNone o) ∷ row 5 (holds (λ t. not (p t)) o) ∷ []) ≡ contentsRow p o
-unfolding firstRow pickRow isNone holds contentsRow
+unfolding firstRow pickRow isNone holds
 rows-contents p none = refl
 rows-contents p (some a) = go (p a)
   where
-    go : (b : Bool) → pickRow (not b) 5 0 ≡ pickRow b 0 5
+    go : (b : Bool) → pickRow (not b) 5 0 ≡ rangeRow b
     go true = refl
     go false = refl
 

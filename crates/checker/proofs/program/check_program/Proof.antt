@@ -8,6 +8,17 @@ use Rattle.checker.proofs.answer.Reads as answer-reads
 use Rattle.checker.proofs.check_header.Reads as check-header-reads
 use Rattle.checker.proofs.number_of.Reads as number-of-reads
 use Rattle.checker.proofs.program.check_contents.Reads as check-contents-reads
+use mathlib.Core.Path.{ap, sym, _∙_}
+use native.Mathlib.Omega.{arith}
+use Prim.Native.Nat.{ℕ}
+use Rattle.rules.specs.Scope.{blockInRange}
+use Rattle.record.specs.Answers.{checkedBy}
+use Rattle.record.specs.Header.{blockIn}
+use Rattle.record.specs.HeaderRows.{contentsRow}
+use Rattle.record.proofs.BetweenLaws.{between}
+use Rattle.record.proofs.HeaderReadLaws.{check-program-contents, check-program-header, header-buffer, header-header}
+use Rattle.checker.specs.Verdict.{numberOf}
+use Rattle.checker.proofs.VerdictLaws.{number-verdict}
 
 -- src/program.rt:175:9
 check-header-requires : tie.Need-check-header-requires
@@ -19,23 +30,41 @@ answer-requires c κs = search needs
 
 -- src/program.rt:177:9
 returns : tie.Need-returns
-returns c = ?
+returns c =
+    let h = c .before .before .check-header in
+    c .answer .ensures ∙ ap (λ (n : ℕ). checkedBy n 0) (h .ensures) ∙ sym (check-program-header (c .before .before .before .before .args .buf .now) (c .before .before .before .before .args .used) (λ e. c .before .if1 .taken (h .ensures ∙ e)))
 
 -- src/program.rt:179:9
 get-u32-requires : tie.Need-get-u32-requires
-get-u32-requires c κs = ?
+get-u32-requires c κs =
+    let e = sym (c .before .check-header .ensures) ∙ c .if1 .left in
+    let b = header-buffer 7 (c .before .before .before .args .buf .now) (c .before .before .before .args .used) e in
+    let h = header-header 7 (c .before .before .before .args .buf .now) (c .before .before .before .args .used) e in
+    omega (arith, b .within, h .eight)
 
 -- src/program.rt:180:37
 sub-check-contents : tie.Need-sub-check-contents
-sub-check-contents c = ?
+sub-check-contents c =
+    let e = sym (c .before .before .check-header .ensures) ∙ c .before .if1 .left in
+    let b = header-buffer 7 (c .before .before .before .before .args .buf .now) (c .before .before .before .before .args .used) e in
+    let h = header-header 7 (c .before .before .before .before .args .buf .now) (c .before .before .before .before .args .used) e in
+    omega (arith, b .within, h .eight)
 
 -- src/program.rt:180:37
 part-check-contents-start : tie.Need-part-check-contents-start
-part-check-contents-start c = ?
+part-check-contents-start c =
+    let e = sym (c .before .before .check-header .ensures) ∙ c .before .if1 .left in
+    let b = header-buffer 7 (c .before .before .before .before .args .buf .now) (c .before .before .before .before .args .used) e in
+    let h = header-header 7 (c .before .before .before .before .args .buf .now) (c .before .before .before .before .args .used) e in
+    omega (arith, b .within, h .eight)
 
 -- src/program.rt:180:37
 part-check-contents-end : tie.Need-part-check-contents-end
-part-check-contents-end c = ?
+part-check-contents-end c =
+    let e = sym (c .before .before .check-header .ensures) ∙ c .before .if1 .left in
+    let b = header-buffer 7 (c .before .before .before .before .args .buf .now) (c .before .before .before .before .args .used) e in
+    let h = header-header 7 (c .before .before .before .before .args .buf .now) (c .before .before .before .before .args .used) e in
+    omega (arith, b .within, h .eight)
 
 -- src/program.rt:180:22
 check-contents-requires : tie.Need-check-contents-requires
@@ -51,7 +80,15 @@ answer-requires-2 c κs = search needs
 
 -- src/program.rt:172:1
 returns-2 : tie.Need-returns-2
-returns-2 c = ?
+returns-2 c =
+    let buf = c .before .before .before .before .before .before .before .before .args .buf .now in
+    let used = c .before .before .before .before .before .before .before .before .args .used in
+    let k = c .before .before .before .before .get-u32 in
+    let b = blockIn (between buf 8 used) in
+    c .answer2 .ensures
+    ∙ ap (λ (n : ℕ). checkedBy n (k .result)) (c .before .number-of .ensures ∙ ap numberOf (c .before .before .check-contents .ensures) ∙ number-verdict (blockInRange (k .result)) b)
+    ∙ ap (λ (n : ℕ). checkedBy (contentsRow (blockInRange n) b) n) (k .ensures)
+    ∙ sym (check-program-contents buf used (sym (c .before .before .before .before .before .before .check-header .ensures) ∙ c .before .before .before .before .before .if1 .left))
 
 pub check-program-spec : {M : Type 1} → statement M
 check-program-spec =
