@@ -1,6 +1,6 @@
 -- The verdict on a program's bytes, part by part.
 use Prim.Native.Nat.{_+_, _-_, _<_, ℕ, _≤_}
-use mathlib.Core.Path.{ap, ap₂, refl, sym, _∙_, _≡_}
+use mathlib.Core.Path.{ap, refl, sym, _∙_, _≡_}
 use mathlib.Core.Bool.{_&&_, Bool, and-true, false, true}
 use mathlib.Core.List.{List}
 use mathlib.Core.Option.{Option, none, some}
@@ -8,7 +8,7 @@ use lib.ListN.{drop, length, take}
 use lib.Seq.{drop-length}
 use native.Mathlib.Omega.{arith}
 use Rattle.rules.specs.Scope.{blockInRange, boundInRange, exprInRange, inRange}
-use Rattle.rules.specs.Syntax.{Block, Bound, Expr, empty, lit}
+use Rattle.rules.specs.Syntax.{Block, Bound, Expr, lit}
 use Rattle.record.specs.Command.{joined, oneAssign, oneLoop, oneNest}
 use Rattle.record.specs.Front.{Front, firstLength}
 use Rattle.record.specs.Program.{decodeBlock}
@@ -17,7 +17,7 @@ use Rattle.record.proofs.ExpressionReadLaws.{Variable, asExpr, boundExpr-range}
 use Rattle.record.proofs.FrontLaws.{first-bad, first-front, front-take}
 use Rattle.record.proofs.ProgramReadLaws.{append-range, decode-bad, decode-empty, decode-front}
 use Rattle.checker.specs.declared.Verdict.{Verdict}
-use Rattle.checker.specs.declared.Verdict.the-variants.{Good, Malformed, Outside}
+use Rattle.checker.specs.declared.Verdict.the-variants.{Good, Malformed}
 use Rattle.checker.specs.Opens.{Opens}
 use Rattle.checker.specs.Verdict.{blockVerdict, rated, verdict, worse}
 use Rattle.checker.proofs.VerdictLaws.{worse-assoc, worse-comm, worse-good, worse-malformed}

@@ -177,5 +177,8 @@ pub fn check_program(buf: &[u8], used: usize) -> Checked
         return answer(header, 0);
     }
     let k = buffer::get_u32(buf, 4);
-    answer(number_of(check_contents(&buf[8..used], k)), k)
+    answer(
+        number_of(check_contents(&buf[record::HEADER_LENGTH..used], k)),
+        k,
+    )
 }

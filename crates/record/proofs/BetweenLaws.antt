@@ -1,6 +1,6 @@
 -- The part of a list from a up to e, as the borrow checker states a part of a slice.
 use Prim.Native.Nat.{_+_, _-_, suc, zero, ℕ, _≤_}
-use mathlib.Core.Path.{refl, _∙_, _≡_}
+use mathlib.Core.Path.{_∙_, _≡_}
 use mathlib.Core.List.{List, [], _∷_}
 use lib.ListN.{drop, length, length-drop, length-take, take}
 use lib.Seq.{drop-drop, take-all, take-nil, take-take}

@@ -1,6 +1,6 @@
 -- What the record of an expression or a bound is read as, by its places and its class.
 use Prim.Native.Nat.{_<_, ℕ, _≤_}
-use mathlib.Core.Path.{_≡_, ap, refl, sym, _∙_, _≡_}
+use mathlib.Core.Path.{_≡_, ap, refl, sym, _∙_}
 use mathlib.Core.Bool.{Bool, false, true}
 use mathlib.Core.List.{List, []}
 use mathlib.Core.Option.{Option, none, some}

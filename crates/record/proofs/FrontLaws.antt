@@ -1,7 +1,7 @@
 -- Laws of what stands first, by its places: the length of the record there, its kind and contents, and what follows it.
 use Prim.Native.Nat.{_+_, _-_, _<_, suc, ℕ, _≤_}
-use mathlib.Core.Path.{_≡_, ap, refl, sym, _∙_, _≡_}
-use mathlib.Core.Bool.{_&&_, Bool, false, not, true}
+use mathlib.Core.Path.{_≡_, ap, refl, sym, _∙_}
+use mathlib.Core.Bool.{Bool, false, not, true}
 use mathlib.Core.List.{List, [], _∷_}
 use mathlib.Core.Option.{Option, none, some}
 use borrow.Author.Tests.{eq-eqb, eqb-false, eqb-true, le-leb, not-true}
@@ -12,7 +12,7 @@ use native.Mathlib.Omega.{arith}
 use Rattle.buffer.specs.LittleEndian.{val}
 use Rattle.buffer.specs.Slice as slice
 use Rattle.buffer.proofs.SliceLaws.{length-part}
-use Rattle.record.specs.Front.{Front, firstLength, isOnly, only, splitLength, u16, u32}
+use Rattle.record.specs.Front.{Front, firstLength, isOnly, only, splitLength, u16}
 use Rattle.record.specs.Reading.{Got, atEnd, fail, got, ofKind, sub, subOf, then}
 use Rattle.record.specs.Record.{Split, bad, cut, end, part, split}
 use Rattle.record.specs.Rows.{isNone}

@@ -1,24 +1,23 @@
 -- Rows 1 to 5 by the places that code reads: one law for each way out of a check.
 use Prim.Native.Nat.{_-_, _<_, ℕ, _≤_}
-use mathlib.Core.Path.{_≡_, ap, refl, sym, _∙_, _≡_}
+use mathlib.Core.Path.{_≡_, ap, refl, sym, _∙_}
 use mathlib.Core.Logic.{inl, inr, _⊎_}
 use mathlib.Core.Bool.{Bool, false, not, true}
 use mathlib.Core.List.{_++_, List, [], _∷_}
 use mathlib.Core.Option.{Option, none, some}
-use lib.ListN.{drop, length, take}
-use lib.Seq.{drop-drop, take-take}
+use lib.ListN.{length, take}
 use native.Mathlib.Omega.{arith}
 use Rattle.buffer.specs.LittleEndian.{val}
 use Rattle.buffer.specs.Slice as slice
 use Rattle.rules.specs.Scope.{Within, blockInRange, termInRange}
-use Rattle.record.specs.Answers.{checkProgram, checkProgramRows, checkTerm, checkTermRows, checkedBy}
+use Rattle.record.specs.Answers.{checkProgram, checkTerm, checkedBy}
 use Rattle.record.specs.Front.{u16, u32}
 use Rattle.record.specs.Header.{blockIn, contents, kField, kindField, lengthField, termIn}
 use Rattle.record.specs.HeaderRows.{contentsRow, headerRow, headerRows, rangeRow}
 use Rattle.record.specs.Rows.{NoRow, Row, badBlock, badBuffer, badHeader, badK, badTerm, blockOf, blockOutside, firstRow, holds, isNone, kOf, pickRow, row, termOf, termOutside}
 use Rattle.record.proofs.AnswerLaws.{checked-refused}
 use Rattle.record.proofs.BetweenLaws.{between, drop-take}
-use Rattle.record.proofs.HeldLaws.{Buffer, Header, buffer-good, good-buffer, good-header, good-k, header-good, k-good}
+use Rattle.record.proofs.HeldLaws.{buffer-good, good-buffer, good-header, header-good, k-good}
 use Rattle.record.proofs.LeafLaws.{part-take}
 use Rattle.record.proofs.RowLaws.{first-applies, first-none, first-skips}
 use Rattle.record.proofs.RowMeaningLaws.{rows-mean}
@@ -104,14 +103,11 @@ module _ (kind : ℕ) (buf : List ℕ) (used : ℕ) where
   header-pass e = first-none (headerRows kind buf used []) refl e
 
   -- what is known where rows 1 to 3 do not apply
-  pub header-buffer : headerRow kind buf used ≡ 0 → Buffer buf used
-  header-buffer e = good-buffer buf used (header-pass e .0)
+  header-eight : headerRow kind buf used ≡ 0 → 8 ≤ used
+  header-eight e = good-header kind buf used (header-pass e .1 .0) .eight
 
-  pub header-header : headerRow kind buf used ≡ 0 → Header kind buf used
-  header-header e = good-header kind buf used (header-pass e .1 .0)
-
-  pub header-k : headerRow kind buf used ≡ 0 → (1 ≤ kOf buf used) × (kOf buf used ≤ 16)
-  header-k e = good-k buf used (header-pass e .1 .1 .0)
+  pub header-within : headerRow kind buf used ≡ 0 → (8 ≤ used) × (used ≤ length buf)
+  header-within e = (header-eight e, good-buffer buf used (header-pass e .0) .within)
 
 -- ROWS 4 AND 5
 
@@ -145,7 +141,7 @@ module _ (buf : List ℕ) (used : ℕ) where
       → checkProgram buf used ≡ checkedBy (contentsRow (blockInRange (u32 buf 4)) (blockIn (between buf 8 used))) (u32 buf 4)
   unfolding checkProgram badBlock blockOutside
   check-program-contents e =
-      let k : kOf buf used ≡ u32 buf 4 = k-at buf used (header-header 7 buf used e .eight) in
+      let k : kOf buf used ≡ u32 buf 4 = k-at buf used (header-eight 7 buf used e) in
       rw (rows-after 7 buf used _ e, rows-contents (blockInRange (kOf buf used)) (blockOf buf used), k, contents-at buf used) refl
 
   pub check-term-header : (headerRow 40 buf used ≡ 0 → ⊥) → checkTerm buf used ≡ checkedBy (headerRow 40 buf used) 0
@@ -156,5 +152,5 @@ module _ (buf : List ℕ) (used : ℕ) where
       → checkTerm buf used ≡ checkedBy (contentsRow (termInRange (u32 buf 4)) (termIn (u32 buf 4) (between buf 8 used))) (u32 buf 4)
   unfolding checkTerm badTerm termOutside
   check-term-contents e =
-      let k : kOf buf used ≡ u32 buf 4 = k-at buf used (header-header 40 buf used e .eight) in
+      let k : kOf buf used ≡ u32 buf 4 = k-at buf used (header-eight 40 buf used e) in
       rw (rows-after 40 buf used _ e, rows-contents (termInRange (kOf buf used)) (termOf buf used), k, contents-at buf used) refl

@@ -1,23 +1,23 @@
 -- Laws of a record that holds one value, by its places: eight bytes, of which the last four are the value.
-use Prim.Native.Nat.{_+_, _-_, _<_, ℕ, _≤_}
-use mathlib.Core.Path.{_≡_, ap, refl, sym, _∙_, _≡_}
+use Prim.Native.Nat.{_+_, _-_, ℕ, _≤_}
+use mathlib.Core.Path.{_≡_, ap, refl, sym, _∙_}
 use mathlib.Core.Bool.{Bool, false, true}
 use mathlib.Core.List.{List, [], _∷_}
 use mathlib.Core.Option.{Option, none, some}
 use borrow.Author.Tests.{eqb-false, eqb-true}
 use lib.Dec.{eqb}
-use lib.ListN.{drop, length, length-drop, take}
+use lib.ListN.{drop, length, take}
 use lib.Seq.{drop-length, length-take-le, take-all, take-take}
 use native.Mathlib.Omega.{arith}
 use Rattle.buffer.specs.LittleEndian.{val}
 use Rattle.buffer.specs.Slice as slice
 use Rattle.buffer.proofs.SliceLaws.{length-part}
-use Rattle.record.specs.Front.{Front, only, u16, u32}
+use Rattle.record.specs.Front.{only, u16, u32}
 use Rattle.record.specs.Reading.{Got, atEnd, fail, fromSome, got, leaf, leafOf, then, word}
 use Rattle.record.specs.Record.{part, split}
 use Rattle.record.proofs.BetweenLaws.{drop-take}
 use Rattle.record.proofs.FrontLaws.{front-split, only-fail, split-front}
-use Rattle.record.proofs.ReadingLaws.{fromSome-got, leaf-length, leaf-parts, word-length}
+use Rattle.record.proofs.ReadingLaws.{leaf-parts, word-length}
 
 -- a reader that finds nothing
 pub fail-unless : {A : Type 0} (g : Got A) → ((a : A) (r : List ℕ) → g ≡ got a r → ⊥) → g ≡ fail

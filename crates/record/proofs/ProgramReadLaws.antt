@@ -1,6 +1,6 @@
 -- What a block's contents decode to by what stands first in them: one law for each way out of code that reads them.
-use Prim.Native.Nat.{_+_, _-_, _<_, suc, zero, ℕ, _≤_}
-use mathlib.Core.Path.{_≡_, ap, refl, sym, _∙_, _≡_}
+use Prim.Native.Nat.{_-_, suc, zero, ℕ, _≤_}
+use mathlib.Core.Path.{_≡_, ap, refl, sym, _∙_}
 use mathlib.Core.Bool.{_&&_, and-assoc, false, true}
 use mathlib.Core.List.{List, [], _∷_}
 use mathlib.Core.Option.{Option, none, some}
@@ -8,7 +8,7 @@ use lib.ListN.{drop, length, length-drop, take}
 use lib.Seq.{drop-drop, length-take-le, take-all}
 use native.Mathlib.Omega.{arith}
 use Rattle.buffer.specs.Slice as slice
-use Rattle.rules.specs.Scope.{blockInRange, exprInRange, inRange}
+use Rattle.rules.specs.Scope.{blockInRange}
 use Rattle.rules.specs.Syntax.{Block, Bound, Expr, assign, empty, loop, nest}
 use Rattle.rules.proofs.Tests.{true-false}
 use Rattle.record.specs.Command.{appendBlock, joined, oneAssign, oneLoop, oneNest}

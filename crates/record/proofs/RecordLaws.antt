@@ -1,8 +1,8 @@
 -- Laws of one record: its length, and that a record in front is found and is all that was found.
 use Prim.Native.Nat.{_+_, _-_, _<_, ℕ, _≤_}
-use mathlib.Core.Path.{_≡_, ap, ap₂, refl, subst, sym, _∙_, _≡_}
+use mathlib.Core.Path.{_≡_, ap, ap₂, refl, subst, sym, _∙_}
 use mathlib.Core.Bool.{_&&_, Bool, false, true}
-use mathlib.Core.List.{_++_, List, [], _++_, _∷_}
+use mathlib.Core.List.{_++_, List, [], _∷_}
 use borrow.Author.Tests.{le-leb, leb-true}
 use lib.Dec.{leb}
 use lib.ListN.{drop, length, length-append, length-drop, take, take-append-drop}

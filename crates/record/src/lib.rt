@@ -5,6 +5,9 @@ ghost use lib.ListN.{length};
 ghost use Rattle.record.specs.Class.{classOf};
 ghost use Rattle.record.specs.Front.{firstLength, isOnly};
 
+// A program's or a term's record has its length, its kind and k before its contents.
+pub const HEADER_LENGTH: usize = 8;
+
 // The class of a record, by its kind.
 pub enum Class {
     Program,

@@ -1,16 +1,13 @@
+-- The number decides between the two forms of an answer.
 use Rattle.checker.proofs.answer.Statement.{statement}
 use Rattle.checker.proofs.answer.Tie as tie
-use Rattle.checker.proofs.answer.Reads as reads
-use Rattle.checker.proofs.answer.Lts as lts
 use mathlib.Core.Path.{sym}
 use native.Mathlib.Omega.{arith}
 use Rattle.record.proofs.AnswerLaws.{checked-accepted, checked-refused}
 
--- src/lib.rt:61:1
 returns : tie.Need-returns
 returns c = sym (checked-accepted (c .before .args .number) (c .before .args .k) (omega arith))
 
--- src/lib.rt:61:1
 returns-2 : tie.Need-returns-2
 returns-2 c = sym (checked-refused (c .before .args .number) (c .before .args .k) (omega arith))
 

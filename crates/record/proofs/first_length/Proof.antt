@@ -1,31 +1,24 @@
+-- Each way out is a law of what stands first.
 use borrow.Author.Needs.{needs}
 use Rattle.record.proofs.first_length.Statement.{statement}
 use Rattle.record.proofs.first_length.Tie as tie
-use Rattle.record.proofs.first_length.Reads as reads
-use Rattle.record.proofs.first_length.Lts as lts
-use Rattle.buffer.proofs.get_u16.Reads as get-u16-reads
-use mathlib.Core.Path.{sym, _∙_}
+use mathlib.Core.Path.{sym}
 use native.Mathlib.Omega.{arith}
 use Rattle.record.proofs.FrontLaws.{first-no, first-yes}
 
--- src/lib.rt:32:9
 returns : tie.Need-returns
 returns c = (sym (first-no (c .before .before .args .s .now) (λ x y. omega arith)), omega arith)
 
--- src/lib.rt:34:9
 get-u16-requires : tie.Need-get-u16-requires
 get-u16-requires c κs = search needs
 
--- src/lib.rt:36:9
 returns-2 : tie.Need-returns-2
 returns-2 c = (sym (first-no (c .before .before .before .before .args .s .now) (λ x y. omega arith)), omega arith)
 
--- src/lib.rt:39:9
 returns-3 : tie.Need-returns-3
 returns-3 c =
     (sym (first-no (c .before .before .before .before .before .args .s .now) (λ x y. omega arith)), omega arith)
 
--- src/lib.rt:28:1
 returns-4 : tie.Need-returns-4
 returns-4 c =
     (sym (first-yes (c .before .before .before .before .before .args .s .now) (c .before .before .get-u16 .result) (record { least = omega arith; most = omega arith; stored = omega arith })), omega arith)

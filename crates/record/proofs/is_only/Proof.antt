@@ -1,34 +1,27 @@
+-- The two tests of the length say that a record stands first and is all; what is left is its kind.
 use borrow.Author.Needs.{needs}
 use Rattle.record.proofs.is_only.Statement.{statement}
 use Rattle.record.proofs.is_only.Tie as tie
-use Rattle.record.proofs.is_only.Reads as reads
-use Rattle.record.proofs.is_only.Lts as lts
-use Rattle.buffer.proofs.get_u16.Reads as get-u16-reads
 use mathlib.Core.Path.{ap, sym, _∙_}
 use native.Mathlib.Omega.{arith}
 use Rattle.record.proofs.FrontLaws.{isOnly-kind, isOnly-no}
 use lib.Dec.{eqb}
 use Prim.Native.Nat.{ℕ}
 
--- src/lib.rt:49:9
 returns : tie.Need-returns
 returns c =
     sym (isOnly-no (c .before .before .args .kind) (c .before .before .args .s .now) (λ f. omega (arith, f .least, f .stored)))
 
--- src/lib.rt:51:8
 get-u16-requires : tie.Need-get-u16-requires
 get-u16-requires c κs = search needs
 
--- src/lib.rt:52:9
 returns-2 : tie.Need-returns-2
 returns-2 c =
     sym (isOnly-no (c .before .before .before .before .args .kind) (c .before .before .before .before .args .s .now) (λ f. omega (arith, f .least, f .stored)))
 
--- src/lib.rt:54:5
 get-u16-requires-2 : tie.Need-get-u16-requires-2
 get-u16-requires-2 c κs = search needs
 
--- src/lib.rt:45:1
 returns-3 : tie.Need-returns-3
 returns-3 c =
     ap (λ (n : ℕ). eqb n (c .before .before .before .before .before .args .kind)) (c .get-u162 .ensures .0)

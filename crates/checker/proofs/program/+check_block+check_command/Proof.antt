@@ -1,3 +1,5 @@
+-- The measure is twice the length, and one more for a block. The loop's invariant: the verdict is the worse of what was found
+-- and the verdict on what is left, from `at` up to `end`.
 use Prim.Native.Nat.{ℕ, _<_, _*_, _+_, _-_, _≤_}
 use borrow.Fn.Kinds.{In}
 use borrow.Fn.PlainCycle.{Measures, is, falls, and}
@@ -14,9 +16,9 @@ use Rattle.checker.proofs.program.+check_block+check_command.{statement
 use Rattle.checker.proofs.program.+check_block+check_command.Tie.{close}
 use borrow.Author.Needs.{needs}
 use native.Mathlib.Omega.{arith}
-use mathlib.Core.Path.{_≡_, ap, ap₂, sym, _∙_}
+use mathlib.Core.Path.{_≡_, ap, sym, _∙_}
 use mathlib.Core.List.{List}
-use lib.ListN.{drop, length}
+use lib.ListN.{length}
 use Rattle.record.specs.Program.{decodeBlock}
 use Rattle.record.proofs.BetweenLaws.{between, between-all, between-rest}
 use Rattle.checker.specs.declared.Verdict.{Verdict}
@@ -71,70 +73,55 @@ check-block-calls t = (
   open-command-reads.Learnt,
 )
 
--- src/program.rt:129:5
 check-block-loop-holds : (t : ℕ) → check-block-lts.Need-loop-holds (check-block-calls t) (check-block-at t) check-block.Post check-block-Inv-loop check-block-μ-loop
 check-block-loop-holds t c =
     (omega arith, omega arith, sym (ap (λ (x : List ℕ). blockVerdict (c .before .args .k) (decodeBlock x)) (between-all (c .before .args .s .now))))
 
--- src/program.rt:130:38
 check-block-sub-first-length : (t : ℕ) → check-block-lts.Need-sub-first-length (check-block-calls t) (check-block-at t) check-block.Post check-block-Inv-loop check-block-μ-loop
 check-block-sub-first-length t c = search needs
 
--- src/program.rt:130:38
 check-block-part-first-length-start : (t : ℕ) → check-block-lts.Need-part-first-length-start (check-block-calls t) (check-block-at t) check-block.Post check-block-Inv-loop check-block-μ-loop
 check-block-part-first-length-start t c = search needs
 
--- src/program.rt:130:38
 check-block-part-first-length-end : (t : ℕ) → check-block-lts.Need-part-first-length-end (check-block-calls t) (check-block-at t) check-block.Post check-block-Inv-loop check-block-μ-loop
 check-block-part-first-length-end t c = search needs
 
--- src/program.rt:130:13
 check-block-first-length-requires : (t : ℕ) → check-block-lts.Need-first-length-requires (check-block-calls t) (check-block-at t) check-block.Post check-block-Inv-loop check-block-μ-loop
 check-block-first-length-requires t c κs = search needs
 
--- src/program.rt:132:13
 check-block-returns : (t : ℕ) → check-block-lts.Need-returns (check-block-calls t) (check-block-at t) check-block.Post check-block-Inv-loop check-block-μ-loop
 check-block-returns t c =
     let s = c .before .before .before .before .before .before .args .s .now in
     let l = c .before .before .before .before .loop in
     sym (l .inv .2 ∙ ap (worse (l .found)) (row-bad (c .before .before .before .before .before .before .args .k) s (l .at) (l .end) (l .inv .1) (omega arith) (sym (c .before .first-length .ensures .0) ∙ c .if1 .taken)) ∙ worse-malformed (l .found))
 
--- src/program.rt:134:20
 check-block-add-next : (t : ℕ) → check-block-lts.Need-add-next (check-block-calls t) (check-block-at t) check-block.Post check-block-Inv-loop check-block-μ-loop
 check-block-add-next t c = search needs
 
--- src/program.rt:135:17
 check-block-sub-if2 : (t : ℕ) → check-block-lts.Need-sub-if2 (check-block-calls t) (check-block-at t) check-block.Post check-block-Inv-loop check-block-μ-loop
 check-block-sub-if2 t c = search needs
 
--- src/program.rt:136:48
 check-block-sub-check-command : (t : ℕ) → check-block-lts.Need-sub-check-command (check-block-calls t) (check-block-at t) check-block.Post check-block-Inv-loop check-block-μ-loop
 check-block-sub-check-command t c = search needs
 
--- src/program.rt:136:48
 check-block-part-check-command-start : (t : ℕ) → check-block-lts.Need-part-check-command-start (check-block-calls t) (check-block-at t) check-block.Post check-block-Inv-loop check-block-μ-loop
 check-block-part-check-command-start t c = search needs
 
--- src/program.rt:136:48
 check-block-part-check-command-end : (t : ℕ) → check-block-lts.Need-part-check-command-end (check-block-calls t) (check-block-at t) check-block.Post check-block-Inv-loop check-block-μ-loop
 check-block-part-check-command-end t c = search needs
 
--- src/program.rt:136:34
 check-block-check-command-requires : (t : ℕ) → check-block-lts.Need-check-command-requires (check-block-calls t) (check-block-at t) check-block.Post check-block-Inv-loop check-block-μ-loop
 check-block-check-command-requires t c κs =
     let l = c .before .before .before .before .before .before .loop in
     let front = row-front (c .before .before .before .before .before .before .before .before .args .k) (c .before .before .before .before .before .before .before .before .args .s .now) (l .at) (l .end) (l .inv .1) (c .before .before .before .first-length .result) (c .before .before .before .first-length .ensures .0) (c .before .before .if1 .left) (l .inv .0) in
     (omega arith, front)
 
--- src/program.rt:136:13
 check-block-worst-requires : (t : ℕ) → check-block-lts.Need-worst-requires (check-block-calls t) (check-block-at t) check-block.Post check-block-Inv-loop check-block-μ-loop
 check-block-worst-requires t c κs = search needs
 
--- src/program.rt:129:5
 check-block-loop-less : (t : ℕ) → check-block-lts.Need-loop-less (check-block-calls t) (check-block-at t) check-block.Post check-block-Inv-loop check-block-μ-loop
 check-block-loop-less t c = search needs
 
--- src/program.rt:129:5
 check-block-loop-again : (t : ℕ) → check-block-lts.Need-loop-again (check-block-calls t) (check-block-at t) check-block.Post check-block-Inv-loop check-block-μ-loop
 check-block-loop-again t c =
     let s = c .before .before .before .before .before .before .before .before .before .before .args .s .now in
@@ -148,59 +135,46 @@ check-block-loop-again t c =
           ∙ ap (λ (v : Verdict). worse v (blockVerdict (c .before .before .before .before .before .before .before .before .before .before .args .k) (decodeBlock (between s (l .at + n .result) (l .end))))) (sym (c .worst .ensures ∙ ap (worse (l .found)) (c .before .check-command .ensures))),
     )
 
--- src/program.rt:139:46
 check-block-sub-check-block : (t : ℕ) → check-block-lts.Need-sub-check-block (check-block-calls t) (check-block-at t) check-block.Post check-block-Inv-loop check-block-μ-loop
 check-block-sub-check-block t c = search needs
 
--- src/program.rt:139:46
 check-block-part-check-block-start : (t : ℕ) → check-block-lts.Need-part-check-block-start (check-block-calls t) (check-block-at t) check-block.Post check-block-Inv-loop check-block-μ-loop
 check-block-part-check-block-start t c = search needs
 
--- src/program.rt:139:46
 check-block-part-check-block-end : (t : ℕ) → check-block-lts.Need-part-check-block-end (check-block-calls t) (check-block-at t) check-block.Post check-block-Inv-loop check-block-μ-loop
 check-block-part-check-block-end t c = search needs
 
--- src/program.rt:139:34
 check-block-check-block-requires : (t : ℕ) → check-block-lts.Need-check-block-requires (check-block-calls t) (check-block-at t) check-block.Post check-block-Inv-loop check-block-μ-loop
 check-block-check-block-requires t c κs = (omega arith, tt)
 
--- src/program.rt:139:13
 check-block-worst-requires-2 : (t : ℕ) → check-block-lts.Need-worst-requires-2 (check-block-calls t) (check-block-at t) check-block.Post check-block-Inv-loop check-block-μ-loop
 check-block-worst-requires-2 t c κs = search needs
 
--- src/program.rt:140:37
 check-block-sub-open-command : (t : ℕ) → check-block-lts.Need-sub-open-command (check-block-calls t) (check-block-at t) check-block.Post check-block-Inv-loop check-block-μ-loop
 check-block-sub-open-command t c = search needs
 
--- src/program.rt:140:37
 check-block-part-open-command-start : (t : ℕ) → check-block-lts.Need-part-open-command-start (check-block-calls t) (check-block-at t) check-block.Post check-block-Inv-loop check-block-μ-loop
 check-block-part-open-command-start t c = search needs
 
--- src/program.rt:140:37
 check-block-part-open-command-end : (t : ℕ) → check-block-lts.Need-part-open-command-end (check-block-calls t) (check-block-at t) check-block.Post check-block-Inv-loop check-block-μ-loop
 check-block-part-open-command-end t c = search needs
 
--- src/program.rt:140:17
 check-block-open-command-requires : (t : ℕ) → check-block-lts.Need-open-command-requires (check-block-calls t) (check-block-at t) check-block.Post check-block-Inv-loop check-block-μ-loop
 check-block-open-command-requires t c κs =
     let l = c .before .before .before .before .before .before .before .before .before .loop in
     row-front (c .before .before .before .before .before .before .before .before .before .before .before .args .k) (c .before .before .before .before .before .before .before .before .before .before .before .args .s .now) (l .at) (l .end) (l .inv .1) (c .before .before .before .before .before .before .first-length .result) (c .before .before .before .before .before .before .first-length .ensures .0) (c .before .before .before .before .before .if1 .left) (l .inv .0)
 
--- src/program.rt:142:13
 check-block-worst-requires-3 : (t : ℕ) → check-block-lts.Need-worst-requires-3 (check-block-calls t) (check-block-at t) check-block.Post check-block-Inv-loop check-block-μ-loop
 check-block-worst-requires-3 t c κs = search needs
 
--- src/program.rt:143:13
 check-block-add-at : (t : ℕ) → check-block-lts.Need-add-at (check-block-calls t) (check-block-at t) check-block.Post check-block-Inv-loop check-block-μ-loop
 check-block-add-at t c =
     omega (arith, c .before .before .open-command .ensures .least, c .before .before .open-command .ensures .most)
 
--- src/program.rt:129:5
 check-block-loop-less-2 : (t : ℕ) → check-block-lts.Need-loop-less-2 (check-block-calls t) (check-block-at t) check-block.Post check-block-Inv-loop check-block-μ-loop
 check-block-loop-less-2 t c =
     omega (arith, c .before .before .open-command .ensures .least, c .before .before .open-command .ensures .most)
 
--- src/program.rt:129:5
 check-block-loop-again-2 : (t : ℕ) → check-block-lts.Need-loop-again-2 (check-block-calls t) (check-block-at t) check-block.Post check-block-Inv-loop check-block-μ-loop
 check-block-loop-again-2 t c =
     let s = c .before .before .before .before .before .before .before .before .before .before .before .before .before .before .args .s .now in
@@ -216,7 +190,6 @@ check-block-loop-again-2 t c =
           (sym (c .before .worst3 .ensures ∙ ap (λ (v : Verdict). worse v (o .result .verdict)) (c .before .before .before .before .worst2 .ensures ∙ ap (worse (l .found)) (c .before .before .before .before .before .check-block .ensures)))),
     )
 
--- src/program.rt:123:1
 check-block-returns-2 : (t : ℕ) → check-block-lts.Need-returns-2 (check-block-calls t) (check-block-at t) check-block.Post check-block-Inv-loop check-block-μ-loop
 check-block-returns-2 t c =
     let l = c .before .loop in
@@ -232,32 +205,25 @@ check-command-calls t = (
   worst-reads.Learnt,
 )
 
--- src/program.rt:155:9
 check-command-open-command-requires : (t : ℕ) → check-command-lts.Need-open-command-requires (check-command-calls t) (check-command-at t) check-command.Post
 check-command-open-command-requires t c κs = c .before .pre .1
 
--- src/program.rt:158:32
 check-command-sub-check-block : (t : ℕ) → check-command-lts.Need-sub-check-block (check-command-calls t) (check-command-at t) check-command.Post
 check-command-sub-check-block t c = omega (arith, c .open-command .ensures .most)
 
--- src/program.rt:158:32
 check-command-part-check-block-start : (t : ℕ) → check-command-lts.Need-part-check-block-start (check-command-calls t) (check-command-at t) check-command.Post
 check-command-part-check-block-start t c = omega (arith, c .open-command .ensures .most)
 
--- src/program.rt:158:32
 check-command-part-check-block-end : (t : ℕ) → check-command-lts.Need-part-check-block-end (check-command-calls t) (check-command-at t) check-command.Post
 check-command-part-check-block-end t c = search needs
 
--- src/program.rt:158:20
 check-command-check-block-requires : (t : ℕ) → check-command-lts.Need-check-block-requires (check-command-calls t) (check-command-at t) check-command.Post
 check-command-check-block-requires t c κs =
     (omega (arith, c .before .open-command .ensures .least, c .before .open-command .ensures .most), tt)
 
--- src/program.rt:158:5
 check-command-worst-requires : (t : ℕ) → check-command-lts.Need-worst-requires (check-command-calls t) (check-command-at t) check-command.Post
 check-command-worst-requires t c κs = search needs
 
--- src/program.rt:151:1
 check-command-returns : (t : ℕ) → check-command-lts.Need-returns (check-command-calls t) (check-command-at t) check-command.Post
 check-command-returns t c =
     let s = c .before .before .before .before .before .args .s .now in

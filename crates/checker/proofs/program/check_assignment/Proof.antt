@@ -1,12 +1,7 @@
+-- The record is 16 bytes; then its two parts decide.
 use borrow.Author.Needs.{needs}
 use Rattle.checker.proofs.program.check_assignment.Statement.{statement}
 use Rattle.checker.proofs.program.check_assignment.Tie as tie
-use Rattle.checker.proofs.program.check_assignment.Reads as reads
-use Rattle.checker.proofs.program.check_assignment.Lts as lts
-use Rattle.buffer.proofs.get_u32.Reads as get-u32-reads
-use Rattle.checker.proofs.check_variable.Reads as check-variable-reads
-use Rattle.checker.proofs.program.check_expression.Reads as check-expression-reads
-use Rattle.checker.proofs.worst.Reads as worst-reads
 use mathlib.Core.Path.{ap, ap₂, sym, _∙_}
 use native.Mathlib.Omega.{arith}
 use Prim.Native.Nat.{ℕ}
@@ -18,40 +13,31 @@ use lib.ListN.{drop, take}
 use Rattle.record.specs.Front.{only, u32}
 use Rattle.record.specs.Program.{readExpr}
 
--- src/program.rt:66:9
 returns : tie.Need-returns
 returns c =
     sym (ap (blockVerdict (c .before .before .args .k)) (decode-assign-no (c .before .before .args .s .now) (c .before .before .pre .0) (c .before .before .pre .1) (omega arith)))
 
--- src/program.rt:69:24
 get-u32-requires : tie.Need-get-u32-requires
 get-u32-requires c κs = search needs
 
--- src/program.rt:69:9
 check-variable-requires : tie.Need-check-variable-requires
 check-variable-requires c κs = search needs
 
--- src/program.rt:70:26
 sub-check-expression : tie.Need-sub-check-expression
 sub-check-expression c = search needs
 
--- src/program.rt:70:26
 part-check-expression-start : tie.Need-part-check-expression-start
 part-check-expression-start c = search needs
 
--- src/program.rt:70:26
 part-check-expression-end : tie.Need-part-check-expression-end
 part-check-expression-end c = search needs
 
--- src/program.rt:70:9
 check-expression-requires : tie.Need-check-expression-requires
 check-expression-requires c κs = search needs
 
--- src/program.rt:68:5
 worst-requires : tie.Need-worst-requires
 worst-requires c κs = search needs
 
--- src/program.rt:60:1
 returns-2 : tie.Need-returns-2
 returns-2 c =
     let s = c .before .before .before .before .before .before .before .args .s .now in

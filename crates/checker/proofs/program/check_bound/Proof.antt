@@ -1,10 +1,7 @@
+-- Up to kind 17 a bound is read as an expression is.
 use borrow.Author.Needs.{needs}
 use Rattle.checker.proofs.program.check_bound.Statement.{statement}
 use Rattle.checker.proofs.program.check_bound.Tie as tie
-use Rattle.checker.proofs.program.check_bound.Reads as reads
-use Rattle.checker.proofs.program.check_bound.Lts as lts
-use Rattle.buffer.proofs.get_u16.Reads as get-u16-reads
-use Rattle.checker.proofs.program.check_expression.Reads as check-expression-reads
 use mathlib.Core.Path.{ap, sym, _∙_}
 use native.Mathlib.Omega.{arith}
 use Rattle.rules.specs.Scope.{boundInRange, exprInRange}
@@ -14,20 +11,16 @@ use Rattle.record.specs.Program.{readBound}
 use Rattle.checker.specs.Verdict.{verdict}
 use Rattle.checker.proofs.ProgramVerdictLaws.{bound-verdict}
 
--- src/program.rt:54:13
 get-u16-requires : tie.Need-get-u16-requires
 get-u16-requires c κs = search needs
 
--- src/program.rt:55:9
 returns : tie.Need-returns
 returns c =
     sym (ap (verdict (boundInRange (c .before .before .before .args .k))) (bound-no-kind (c .before .before .before .args .s .now) (omega arith)))
 
--- src/program.rt:57:5
 check-expression-requires : tie.Need-check-expression-requires
 check-expression-requires c κs = search needs
 
--- src/program.rt:50:1
 returns-2 : tie.Need-returns-2
 returns-2 c =
     c .check-expression .ensures

@@ -1,13 +1,8 @@
+-- By the length stored, then by the class, then by the kind.
 use borrow.Author.Needs.{needs}
 use Rattle.checker.proofs.program.check_expression.Statement.{statement}
 use Rattle.checker.proofs.program.check_expression.Tie as tie
-use Rattle.checker.proofs.program.check_expression.Reads as reads
-use Rattle.checker.proofs.program.check_expression.Lts as lts
-use Rattle.buffer.proofs.get_u16.Reads as get-u16-reads
-use Rattle.buffer.proofs.get_u32.Reads as get-u32-reads
-use Rattle.checker.proofs.check_variable.Reads as check-variable-reads
-use Rattle.record.proofs.class_of.Reads as class-of-reads
-use mathlib.Core.Path.{_≡_, ap, sym, _∙_, refl}
+use mathlib.Core.Path.{ap, sym, _∙_, refl}
 use Prim.Native.Nat.{ℕ}
 use native.Mathlib.Omega.{arith}
 use Rattle.rules.specs.Scope.{exprInRange, inRange}
@@ -18,53 +13,41 @@ use Rattle.record.specs.Front.{only}
 use Rattle.record.specs.Program.{readExpr}
 use Rattle.checker.proofs.ProgramVerdictLaws.{literal-verdict, variable-verdict}
 
--- src/program.rt:31:8
 get-u16-requires : tie.Need-get-u16-requires
 get-u16-requires c κs = search needs
 
--- src/program.rt:32:9
 returns : tie.Need-returns
 returns c =
     sym (ap (verdict (exprInRange (c .before .before .before .args .k))) (expr-no-length (c .before .before .before .args .s .now) (omega arith)))
 
--- src/program.rt:34:9
 get-u16-requires-2 : tie.Need-get-u16-requires-2
 get-u16-requires-2 c κs = search needs
 
--- src/program.rt:35:11
 class-of-requires : tie.Need-class-of-requires
 class-of-requires c κs = search needs
 
--- src/program.rt:37:16
 enum-told : tie.Need-enum-told
 enum-told c = search needs
 
--- src/program.rt:40:32
 get-u32-requires : tie.Need-get-u32-requires
 get-u32-requires c κs = search needs
 
--- src/program.rt:40:17
 check-variable-requires : tie.Need-check-variable-requires
 check-variable-requires c κs = search needs
 
--- src/program.rt:43:35
 enum-told-2 : tie.Need-enum-told-2
 enum-told-2 c = search needs
 
--- src/program.rt:44:32
 enum-told-3 : tie.Need-enum-told-3
 enum-told-3 c = search needs
 
--- src/program.rt:45:37
 enum-told-4 : tie.Need-enum-told-4
 enum-told-4 c = search needs
 
--- src/program.rt:27:1
 returns-2 : tie.Need-returns-2
 returns-2 c =
     sym (ap (verdict (exprInRange (c .before .before .before .before .before .before .before .before .args .k))) (expr-literal (c .before .before .before .before .before .before .before .before .args .s .now) (c .before .before .before .before .before .before .before .before .pre) (omega arith) (omega arith)) ∙ literal-verdict (c .before .before .before .before .before .before .before .before .args .k) _)
 
--- src/program.rt:27:1
 returns-3 : tie.Need-returns-3
 returns-3 c =
     let class = ap classOf (sym (c .before .before .before .before .before .before .get-u162 .ensures .0)) ∙ sym (c .before .before .before .before .before .class-of .ensures) ∙ c .before .before .before .enum-told .given .1 in
@@ -72,19 +55,16 @@ returns-3 c =
     ∙ ap (λ (x : ℕ). rated (inRange (c .before .before .before .before .before .before .before .before .before .before .args .k) x)) (c .before .get-u32 .ensures)
     ∙ sym (variable-verdict (c .before .before .before .before .before .before .before .before .before .before .args .k) (only (readExpr (c .before .before .before .before .before .before .before .before .before .before .args .s .now))) _ (expr-variable (c .before .before .before .before .before .before .before .before .before .before .args .s .now) (c .before .before .before .before .before .before .before .before .before .before .pre) (omega arith) class (omega arith)))
 
--- src/program.rt:27:1
 returns-4 : tie.Need-returns-4
 returns-4 c =
     let class = ap classOf (sym (c .before .before .before .get-u162 .ensures .0)) ∙ sym (c .before .before .class-of .ensures) ∙ c .enum-told2 .given .1 in
     sym (ap (verdict (exprInRange (c .before .before .before .before .before .before .before .args .k))) (expr-no-class (c .before .before .before .before .before .before .before .args .s .now) _ class refl))
 
--- src/program.rt:27:1
 returns-5 : tie.Need-returns-5
 returns-5 c =
     let class = ap classOf (sym (c .before .before .before .get-u162 .ensures .0)) ∙ sym (c .before .before .class-of .ensures) ∙ c .enum-told3 .given .1 in
     sym (ap (verdict (exprInRange (c .before .before .before .before .before .before .before .args .k))) (expr-no-class (c .before .before .before .before .before .before .before .args .s .now) _ class refl))
 
--- src/program.rt:27:1
 returns-6 : tie.Need-returns-6
 returns-6 c =
     let class = ap classOf (sym (c .before .before .before .get-u162 .ensures .0)) ∙ sym (c .before .before .class-of .ensures) ∙ c .enum-told4 .given .1 in

@@ -1,13 +1,7 @@
+-- The header decides, or what the record holds.
 use borrow.Author.Needs.{needs}
 use Rattle.checker.proofs.program.check_program.Statement.{statement}
 use Rattle.checker.proofs.program.check_program.Tie as tie
-use Rattle.checker.proofs.program.check_program.Reads as reads
-use Rattle.checker.proofs.program.check_program.Lts as lts
-use Rattle.buffer.proofs.get_u32.Reads as get-u32-reads
-use Rattle.checker.proofs.answer.Reads as answer-reads
-use Rattle.checker.proofs.check_header.Reads as check-header-reads
-use Rattle.checker.proofs.number_of.Reads as number-of-reads
-use Rattle.checker.proofs.program.check_contents.Reads as check-contents-reads
 use mathlib.Core.Path.{ap, sym, _∙_}
 use native.Mathlib.Omega.{arith}
 use Prim.Native.Nat.{ℕ}
@@ -16,69 +10,50 @@ use Rattle.record.specs.Answers.{checkedBy}
 use Rattle.record.specs.Header.{blockIn}
 use Rattle.record.specs.HeaderRows.{contentsRow}
 use Rattle.record.proofs.BetweenLaws.{between}
-use Rattle.record.proofs.HeaderReadLaws.{check-program-contents, check-program-header, header-buffer, header-header}
+use Rattle.record.proofs.HeaderReadLaws.{check-program-contents, check-program-header, header-within}
 use Rattle.checker.specs.Verdict.{numberOf}
 use Rattle.checker.proofs.VerdictLaws.{number-verdict}
 
--- src/program.rt:175:9
 check-header-requires : tie.Need-check-header-requires
 check-header-requires c κs = search needs
 
--- src/program.rt:177:9
 answer-requires : tie.Need-answer-requires
 answer-requires c κs = search needs
 
--- src/program.rt:177:9
 returns : tie.Need-returns
 returns c =
     let h = c .before .before .check-header in
     c .answer .ensures ∙ ap (λ (n : ℕ). checkedBy n 0) (h .ensures) ∙ sym (check-program-header (c .before .before .before .before .args .buf .now) (c .before .before .before .before .args .used) (λ e. c .before .if1 .taken (h .ensures ∙ e)))
 
--- src/program.rt:179:9
 get-u32-requires : tie.Need-get-u32-requires
 get-u32-requires c κs =
-    let e = sym (c .before .check-header .ensures) ∙ c .if1 .left in
-    let b = header-buffer 7 (c .before .before .before .args .buf .now) (c .before .before .before .args .used) e in
-    let h = header-header 7 (c .before .before .before .args .buf .now) (c .before .before .before .args .used) e in
-    omega (arith, b .within, h .eight)
+    let w = header-within 7 (c .before .before .before .args .buf .now) (c .before .before .before .args .used) (sym (c .before .check-header .ensures) ∙ c .if1 .left) in
+    omega arith
 
--- src/program.rt:180:37
 sub-check-contents : tie.Need-sub-check-contents
 sub-check-contents c =
-    let e = sym (c .before .before .check-header .ensures) ∙ c .before .if1 .left in
-    let b = header-buffer 7 (c .before .before .before .before .args .buf .now) (c .before .before .before .before .args .used) e in
-    let h = header-header 7 (c .before .before .before .before .args .buf .now) (c .before .before .before .before .args .used) e in
-    omega (arith, b .within, h .eight)
+    let w = header-within 7 (c .before .before .before .before .args .buf .now) (c .before .before .before .before .args .used) (sym (c .before .before .check-header .ensures) ∙ c .before .if1 .left) in
+    omega arith
 
--- src/program.rt:180:37
 part-check-contents-start : tie.Need-part-check-contents-start
 part-check-contents-start c =
-    let e = sym (c .before .before .check-header .ensures) ∙ c .before .if1 .left in
-    let b = header-buffer 7 (c .before .before .before .before .args .buf .now) (c .before .before .before .before .args .used) e in
-    let h = header-header 7 (c .before .before .before .before .args .buf .now) (c .before .before .before .before .args .used) e in
-    omega (arith, b .within, h .eight)
+    let w = header-within 7 (c .before .before .before .before .args .buf .now) (c .before .before .before .before .args .used) (sym (c .before .before .check-header .ensures) ∙ c .before .if1 .left) in
+    omega arith
 
--- src/program.rt:180:37
 part-check-contents-end : tie.Need-part-check-contents-end
 part-check-contents-end c =
-    let e = sym (c .before .before .check-header .ensures) ∙ c .before .if1 .left in
-    let b = header-buffer 7 (c .before .before .before .before .args .buf .now) (c .before .before .before .before .args .used) e in
-    let h = header-header 7 (c .before .before .before .before .args .buf .now) (c .before .before .before .before .args .used) e in
-    omega (arith, b .within, h .eight)
+    let w = header-within 7 (c .before .before .before .before .args .buf .now) (c .before .before .before .before .args .used) (sym (c .before .before .check-header .ensures) ∙ c .before .if1 .left) in
+    omega arith
 
--- src/program.rt:180:22
 check-contents-requires : tie.Need-check-contents-requires
 check-contents-requires c κs = search needs
 
--- src/program.rt:180:12
 number-of-requires : tie.Need-number-of-requires
 number-of-requires c κs = search needs
 
--- src/program.rt:180:5
 answer-requires-2 : tie.Need-answer-requires-2
 answer-requires-2 c κs = search needs
 
--- src/program.rt:172:1
 returns-2 : tie.Need-returns-2
 returns-2 c =
     let buf = c .before .before .before .before .before .before .before .before .args .buf .now in

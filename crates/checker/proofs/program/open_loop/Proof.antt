@@ -1,13 +1,7 @@
+-- The block inside reaches to the record's end; then the index and the bound decide.
 use borrow.Author.Needs.{needs}
 use Rattle.checker.proofs.program.open_loop.Statement.{statement}
 use Rattle.checker.proofs.program.open_loop.Tie as tie
-use Rattle.checker.proofs.program.open_loop.Reads as reads
-use Rattle.checker.proofs.program.open_loop.Lts as lts
-use Rattle.buffer.proofs.get_u32.Reads as get-u32-reads
-use Rattle.checker.proofs.check_variable.Reads as check-variable-reads
-use Rattle.checker.proofs.program.check_bound.Reads as check-bound-reads
-use Rattle.checker.proofs.worst.Reads as worst-reads
-use Rattle.record.proofs.is_only.Reads as is-only-reads
 use mathlib.Core.Path.{ap, ap₂, sym, _∙_}
 use native.Mathlib.Omega.{arith}
 use Prim.Native.Nat.{ℕ}
@@ -19,60 +13,46 @@ use Rattle.record.proofs.BetweenLaws.{between-rest}
 use Rattle.record.proofs.ProgramReadLaws.{decode-loop, decode-loop-no}
 use Rattle.checker.specs.Verdict.{blockVerdict, rated, worse}
 use Rattle.checker.proofs.ProgramVerdictLaws.{loop-verdict, opens-all}
-use mathlib.Core.Bool.{true}
 use Rattle.rules.proofs.Tests.{true-false}
 use Rattle.checker.specs.declared.Verdict.{Verdict}
 
--- src/program.rt:80:9
 returns : tie.Need-returns
 returns c =
     opens-all (c .before .before .args .k) (c .before .before .args .s .now) _ (omega arith) (sym (ap (blockVerdict (c .before .before .args .k)) (decode-loop-no (c .before .before .args .s .now) (c .before .before .pre .0) (c .before .before .pre .1) (λ x y. omega arith))))
 
--- src/program.rt:85:24
 sub-is-only : tie.Need-sub-is-only
 sub-is-only c = search needs
 
--- src/program.rt:85:24
 part-is-only-start : tie.Need-part-is-only-start
 part-is-only-start c = search needs
 
--- src/program.rt:85:24
 part-is-only-end : tie.Need-part-is-only-end
 part-is-only-end c = search needs
 
--- src/program.rt:85:8
 is-only-requires : tie.Need-is-only-requires
 is-only-requires c κs = search needs
 
--- src/program.rt:86:36
 get-u32-requires : tie.Need-get-u32-requires
 get-u32-requires c κs = search needs
 
--- src/program.rt:86:13
 check-variable-requires : tie.Need-check-variable-requires
 check-variable-requires c κs = search needs
 
--- src/program.rt:88:47
 sub-check-bound : tie.Need-sub-check-bound
 sub-check-bound c = search needs
 
--- src/program.rt:88:47
 part-check-bound-start : tie.Need-part-check-bound-start
 part-check-bound-start c = search needs
 
--- src/program.rt:88:47
 part-check-bound-end : tie.Need-part-check-bound-end
 part-check-bound-end c = search needs
 
--- src/program.rt:88:35
 check-bound-requires : tie.Need-check-bound-requires
 check-bound-requires c κs = search needs
 
--- src/program.rt:88:22
 worst-requires : tie.Need-worst-requires
 worst-requires c κs = search needs
 
--- src/program.rt:74:1
 returns-2 : tie.Need-returns-2
 returns-2 c =
     let s = c .before .before .before .before .before .before .before .before .before .before .args .s .now in
@@ -86,7 +66,6 @@ returns-2 c =
           ∙ ap₂ worse (c .before .before .before .check-variable .ensures ∙ ap (λ (x : ℕ). rated (inRange (c .before .before .before .before .before .before .before .before .before .before .args .k) x)) (c .before .before .before .before .get-u32 .ensures)) (c .before .check-bound .ensures)));
     }
 
--- src/program.rt:74:1
 returns-3 : tie.Need-returns-3
 returns-3 c =
     let s = c .before .before .before .before .before .args .s .now in
