@@ -1,7 +1,13 @@
+pub mod ClassLaws
 pub mod RecordLaws
 pub mod ReadingLaws
+pub mod FrontLaws
+pub mod BetweenLaws
+pub mod LeafLaws
 pub mod FixLaws
 pub mod ProgramLaws
+pub mod ProgramReadLaws
+pub mod ExpressionReadLaws
 pub mod TermLaws
 pub mod HeaderLaws
 pub mod WordsLaws
@@ -10,3 +16,4 @@ pub mod AnswerLaws
 pub mod HeldLaws
 pub mod HoldingLaws
 pub mod RowMeaningLaws
+pub mod HeaderReadLaws

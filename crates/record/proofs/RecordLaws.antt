@@ -1,8 +1,8 @@
 -- Laws of one record: its length, and that a record in front is found and is all that was found.
 use Prim.Native.Nat.{_+_, _-_, _<_, ℕ, _≤_}
-use mathlib.Core.Path.{_≡_, ap, ap₂, refl, subst, sym, _∙_, _≡_}
+use mathlib.Core.Path.{_≡_, ap, ap₂, refl, subst, sym, _∙_}
 use mathlib.Core.Bool.{_&&_, Bool, false, true}
-use mathlib.Core.List.{_++_, List, [], _++_, _∷_}
+use mathlib.Core.List.{_++_, List, [], _∷_}
 use borrow.Author.Tests.{le-leb, leb-true}
 use lib.Dec.{leb}
 use lib.ListN.{drop, length, length-append, length-drop, take, take-append-drop}
@@ -31,18 +31,18 @@ pub record Parted (bs : List ℕ) (k : ℕ) (b r : List ℕ) : Type 0 where
   pub after : Bytes r
 
 -- the bytes that a found record was read from
-record Taken (bs : List ℕ) (k : ℕ) (b r : List ℕ) : Type 0 where
-  a₀ : ℕ
-  a₁ : ℕ
-  a₂ : ℕ
-  a₃ : ℕ
-  xs : List ℕ
-  all : bs ≡ a₀ ∷ a₁ ∷ a₂ ∷ a₃ ∷ xs
-  head : 4 ≤ val (a₀ ∷ a₁ ∷ [])
-  fits : val (a₀ ∷ a₁ ∷ []) - 4 ≤ length xs
-  is-kind : k ≡ val (a₂ ∷ a₃ ∷ [])
-  is-body : b ≡ take (val (a₀ ∷ a₁ ∷ []) - 4) xs
-  is-rest : r ≡ drop (val (a₀ ∷ a₁ ∷ []) - 4) xs
+pub record Taken (bs : List ℕ) (k : ℕ) (b r : List ℕ) : Type 0 where
+  pub a₀ : ℕ
+  pub a₁ : ℕ
+  pub a₂ : ℕ
+  pub a₃ : ℕ
+  pub xs : List ℕ
+  pub all : bs ≡ a₀ ∷ a₁ ∷ a₂ ∷ a₃ ∷ xs
+  pub head : 4 ≤ val (a₀ ∷ a₁ ∷ [])
+  pub fits : val (a₀ ∷ a₁ ∷ []) - 4 ≤ length xs
+  pub is-kind : k ≡ val (a₂ ∷ a₃ ∷ [])
+  pub is-body : b ≡ take (val (a₀ ∷ a₁ ∷ []) - 4) xs
+  pub is-rest : r ≡ drop (val (a₀ ∷ a₁ ∷ []) - 4) xs
 
 bad-part : (k : ℕ) (b r : List ℕ) → bad ≡ part k b r → ⊥
 bad-part k b r e = let z : _≡_ {A = ℕ} 0 1 = cc in omega arith
@@ -55,7 +55,7 @@ unfolding cut
 cut-part true k n xs m b r e = (refl, cc, cc, cc)
 cut-part false k n xs m b r e = absurd (bad-part m b r e)
 
-split-taken : (bs : List ℕ) (k : ℕ) (b r : List ℕ) → split bs ≡ part k b r → Taken bs k b r
+pub split-taken : (bs : List ℕ) (k : ℕ) (b r : List ℕ) → split bs ≡ part k b r → Taken bs k b r
 unfolding split
 split-taken [] k b r e = absurd (end-part k b r e)
 split-taken (a₀ ∷ []) k b r e = absurd (bad-part k b r e)

@@ -1,3 +1,4 @@
+pub mod Class
 pub mod Record
 pub mod Reading
 pub mod Fix
@@ -6,5 +7,8 @@ pub mod Term
 pub mod Header
 pub mod Rows
 pub mod Answers
+pub mod Front
+pub mod Command
+pub mod HeaderRows
 pub mod Holding
 pub mod RowMeaning
