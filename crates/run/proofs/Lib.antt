@@ -1,1 +1,3 @@
 pub mod RanLaws
+pub mod TallyLaws
+pub mod RepresentsLaws

@@ -1,2 +1,4 @@
 pub mod RunAnswer
 pub mod RanFrom
+pub mod Tally
+pub mod Represents

@@ -1,1 +1,95 @@
-// No code yet: the crate is its definitions (specs) and theorems (proofs).
+// What the runs of both engines share: the outcome, the tally, and how a run ended.
+ghost use mathlib.Core.Path.{_≡_};
+ghost use Prim.Native.Nat.{_+_, _<_, _^_};
+ghost use Rattle.run.specs.Represents.{answered, asOutcome, asRunAnswer};
+ghost use Rattle.run.specs.RunAnswer.{outcomeNumber, refusal};
+ghost use Rattle.run.specs.Tally.{advanced, isSpent, started};
+
+pub enum Outcome {
+    Finished,
+    Over,
+    NoRoom,
+    Spent,
+    Refused,
+}
+
+// An enum cannot cross the C boundary: its number does.
+pub fn outcome_number(o: Outcome) -> u32
+    ensures { λ r. ⌜ r ≡ outcomeNumber (asOutcome o) ⌝ }
+{
+    match o {
+        Outcome::Finished => 1,
+        Outcome::Over => 2,
+        Outcome::NoRoom => 3,
+        Outcome::Spent => 4,
+        Outcome::Refused => 0,
+    }
+}
+
+// 01's tally: steps made in this run, and budget left.
+pub struct Tally {
+    pub steps: u32,
+    pub left: u32,
+}
+
+impl Tally {
+    pub fn start(budget: u32) -> Tally
+        ensures { λ r. ⌜ r ≡ started budget ⌝ }
+    {
+        Tally {
+            steps: 0,
+            left: budget,
+        }
+    }
+
+    // One step was made. The two numbers together stay the budget, which is a u32: so a run's count of steps always fits.
+    pub fn advance(self) -> Tally
+        requires { ⌜ (0 < self .left) × (self .steps + self .left < 2 ^ 32) ⌝ }
+        ensures { λ r. ⌜ r ≡ advanced self ⌝ }
+    {
+        Tally {
+            steps: self.steps + 1,
+            left: self.left - 1,
+        }
+    }
+
+    pub fn spent(self) -> bool
+        ensures { λ r. ⌜ r ≡ isSpent self ⌝ }
+    {
+        self.left == 0
+    }
+}
+
+// How a run ended. `number` is that of the refusal, 0 for a run that was made; `used` is the new used length.
+pub struct RunEnd {
+    pub number: u32,
+    pub outcome: Outcome,
+    pub steps: u32,
+    pub left: u32,
+    pub used: u32,
+}
+
+// A refused run hands nothing back but its number.
+pub fn refuse(number: u32) -> RunEnd
+    ensures { λ r. ⌜ asRunAnswer r ≡ refusal number ⌝ }
+{
+    RunEnd {
+        number,
+        outcome: Outcome::Refused,
+        steps: 0,
+        left: 0,
+        used: 0,
+    }
+}
+
+pub fn answer(outcome: Outcome, tally: Tally, used: u32) -> RunEnd
+    ensures { λ r. ⌜ asRunAnswer r ≡ answered outcome tally used ⌝ }
+{
+    RunEnd {
+        number: 0,
+        outcome,
+        steps: tally.steps,
+        left: tally.left,
+        used,
+    }
+}

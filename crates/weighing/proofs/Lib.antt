@@ -1,1 +1,2 @@
 pub mod WeighLaws
+pub mod FillLaws

@@ -42,6 +42,20 @@ weigh-not gross tare store n =
     weigh-refused gross tare store (λ z. omega (arith, sym six ∙ z))
     ∙ ap (λ (m : ℕ). record { number = m; store = store }) six
 
+-- ONE LAW FOR EACH WAY OUT of the call's code
+
+-- other than 1 to 16 values: row 6, and the store as it came
+pub weigh-six : (gross tare : ℕ) (store : List ℕ) → (Within 16 (length store) → ⊥) → (6 ≡ (weighCall gross tare store) .number) × (store ≡ (weighCall gross tare store) .store)
+weigh-six gross tare store n = let e = weigh-not gross tare store n in (ap (λ (s : Stored). s .number) (sym e), ap (λ (s : Stored). s .store) (sym e))
+
+-- 1 to 16 values: the store filled with the count
+pub weigh-filled : (gross tare net count : ℕ) (store after : List ℕ) → Within 16 (length store) → net ≡ netLoad gross tare → count ≡ countOf net → after ≡ weighed (length store) count
+    → (0 ≡ (weighCall gross tare store) .number) × (after ≡ (weighCall gross tare store) .store)
+unfolding weighed
+weigh-filled gross tare net count store after w n c f =
+    let e = weigh-gives gross tare store w in
+    (ap (λ (s : Stored). s .number) (sym e), f ∙ ap (λ (m : ℕ). m ∷ replicate (length store - 1) 0) (c ∙ ap countOf n) ∙ ap (λ (s : Stored). s .store) (sym e))
+
 -- by whether the store has 1 to 16 values
 weigh-by : (P : Stored → Type 0) (gross tare : ℕ) (store : List ℕ)
     → (Within 16 (length store) → P (record { number = 0; store = countOf (netLoad gross tare) ∷ replicate (length store - 1) 0 }))
