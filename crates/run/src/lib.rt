@@ -1,1 +1,2 @@
-// No code yet: the crate is its definitions (specs) and theorems (proofs).
+// What both engines share.
+pub mod value;
