@@ -130,6 +130,10 @@ pub opens-kind : (l : List ℕ) (p : ℕ) → (val (part l (p + 2) 2) ≡ 1 → 
 unfolding opensAt
 opens-kind l p h = rw (ne-eqb (val (part l (p + 2) 2)) 1 h)
 
+pub opens-test : (l : List ℕ) (p n : ℕ) → val (part l (p + 2) 2) ≡ 1 → n ≡ val (part l p 2) → ltb 4 n ≡ opensAt l p
+unfolding opensAt
+opens-test l p n e f = rw (e, f) refl
+
 pub opens-short : (l : List ℕ) (p : ℕ) → val (part l (p + 2) 2) ≡ 1 → val (part l p 2) ≤ 4 → opensAt l p ≡ false
 unfolding opensAt
 opens-short l p e h = rw (eq-eqb (val (part l (p + 2) 2)) 1 e, le-ltb 4 (val (part l p 2)) h)

@@ -1,11 +1,13 @@
 -- Laws of values and stores.
-use Prim.Native.Nat.{_<_, suc, zero, ℕ, _≤_}
-use mathlib.Core.Path.{ap, refl, _∙_, _≡_}
+use Prim.Native.Nat.{_-_, _<_, suc, zero, ℕ, _≤_}
+use mathlib.Core.Path.{ap, refl, sym, _∙_, _≡_}
 use mathlib.Core.Logic.{_↔_}
 use mathlib.Core.Bool.{Bool, true}
+use mathlib.Core.List.{List}
 use borrow.Author.Tests.{lt-ltb, ltb-true}
+use lib.ListN.{getD}
 use native.Mathlib.Omega.{arith}
-use Rattle.rules.specs.Store.{Limit, fitsWord, minusOne, noLimit, wordLimit}
+use Rattle.rules.specs.Store.{Limit, fitsWord, lookup, minusOne, noLimit, wordLimit}
 
 -- THE LIMITS: 01's, and none
 
@@ -44,3 +46,13 @@ minusOne-suc n = refl
 pub minusOne-passes : (ok : ℕ → Bool) → Limit ok → (n : ℕ) → ok n ≡ true → ok (minusOne n) ≡ true
 minusOne-passes ok limit zero h = ap ok minusOne-zero ∙ h
 minusOne-passes ok limit (suc n) h = ap ok (minusOne-suc n) ∙ limit .belowPasses n h
+
+-- as code works them out
+pub minusOne-less : (n : ℕ) → (n ≡ 0 → ⊥) → n - 1 ≡ minusOne n
+minusOne-less zero h = absurd (h refl)
+minusOne-less (suc n) h = let e : suc n - 1 ≡ n = omega arith in e ∙ sym (minusOne-suc n)
+
+pub lookup-index : (s : List ℕ) (x : ℕ) → 1 ≤ x → getD s (x - 1) 0 ≡ lookup s x
+unfolding lookup
+lookup-index s zero h = absurd (omega arith)
+lookup-index s (suc i) h = ap (λ j. getD s j 0) {x = suc i - 1} {y = i} (omega arith)

@@ -1,4 +1,6 @@
 // What the runs of both engines share: the outcome, the tally, and how a run ended.
+pub mod value;
+
 ghost use mathlib.Core.Path.{_≡_};
 ghost use Prim.Native.Nat.{_+_, _<_, _^_};
 ghost use Rattle.run.specs.Represents.{answered, asOutcome, asRunAnswer};
