@@ -1,0 +1,39 @@
+/* The calls of the Vistrokk library. Link libvistrokk.a (made by `rt staticlib vistrokk`).
+ *
+ * Lent memory: a buffer is a pointer and its length in bytes; its first `used` bytes are the record. Buffers are at most
+ * 16,384 bytes long. Memory lent to one call must not overlap. NULL may be lent only with length 0. No call keeps a pointer,
+ * none allocates, and none needs more than about 2 KB of stack.
+ *
+ * Every call ends, and answers 0 or the number of the first refusal that applies. A refusal gives 0 for everything else and
+ * changes no byte that was lent.
+ *
+ *    1  a buffer above 16,384 bytes, or `used` above its buffer
+ *    2  under 8 bytes used, or wrong kind, or the length in the record is not `used`
+ *    3  k not 1 to 16
+ *    4  bytes outside the grammar
+ *    5  a variable number not 1 to k
+ */
+#ifndef VISTROKK_H
+#define VISTROKK_H
+
+#include <stddef.h>
+#include <stdint.h>
+
+#ifdef __cplusplus
+extern "C" {
+#endif
+
+/* number: 0 or the refusal; k: the record's number of variables, 0 with a refusal. */
+typedef struct { uint32_t number, k; } vistrokk_checked;
+
+/* Is it a program's record, of k variables? Refusals 1 to 5. Writes nothing. */
+vistrokk_checked vistrokk_check_program(const uint8_t *buf, size_t buf_len, size_t used);
+
+/* Is it a term's record, of k variables? Refusals 1 to 5. Writes nothing. */
+vistrokk_checked vistrokk_check_term(const uint8_t *buf, size_t buf_len, size_t used);
+
+#ifdef __cplusplus
+}
+#endif
+
+#endif
