@@ -1,2 +1,4 @@
 pub mod VerdictLaws
 pub mod ProgramVerdictLaws
+pub mod TermVerdictLaws
+pub mod TermOpensLaws

@@ -1,8 +1,10 @@
 // The checker: rows 1 to 5 of the table of refusals over lent bytes. This file has what programs and terms share.
 pub mod program;
+pub mod term;
 
 ghost use mathlib.Core.Path.{_≡_};
 ghost use Rattle.rules.specs.Scope.{inRange};
+ghost use Rattle.record.specs.Alone.{recordKind};
 ghost use Rattle.record.specs.Answers.{checkedBy};
 ghost use Rattle.record.specs.HeaderRows.{headerRow};
 ghost use Rattle.checker.specs.Answer.{asChecked};
@@ -100,4 +102,17 @@ pub fn check_header(buf: &[u8], used: usize, kind: usize) -> u32
         return 3;
     }
     0
+}
+
+// The kind of the one record that s is; 0, which is no kind, where it is not one record.
+fn record_kind(s: &[u8]) -> usize
+    ensures { λ r. ⌜ r ≡ recordKind (now (s .entry)) ⌝ }
+{
+    if s.len() < 4 {
+        return 0;
+    }
+    if buffer::get_u16(s, 0) != s.len() {
+        return 0;
+    }
+    buffer::get_u16(s, 2)
 }

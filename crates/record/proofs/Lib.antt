@@ -17,3 +17,5 @@ pub mod HeldLaws
 pub mod HoldingLaws
 pub mod RowMeaningLaws
 pub mod HeaderReadLaws
+pub mod AloneLaws
+pub mod TermReadLaws

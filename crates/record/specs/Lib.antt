@@ -12,3 +12,4 @@ pub mod Command
 pub mod HeaderRows
 pub mod Holding
 pub mod RowMeaning
+pub mod Alone

@@ -1,0 +1,181 @@
+// The check of a term. Every function judges all of the slice that it is lent, so that what follows a part is never read as
+// a piece of it.
+ghost use mathlib.Core.Path.{_≡_};
+ghost use Prim.Native.Nat.{ℕ};
+ghost use Rattle.rules.specs.Scope.{atomInRange, atomsInRange, simpleInRange};
+ghost use Rattle.record.specs.Alone.{recordKind, onlySimple, onlyTuple};
+ghost use Rattle.record.specs.Header.{termIn};
+ghost use Rattle.record.specs.Term.{onlyAtom, decodeAtoms};
+ghost use Rattle.record.specs.Answers.{checkTerm};
+ghost use Rattle.checker.specs.Answer.{asChecked};
+ghost use Rattle.checker.specs.Verdict.{verdict};
+ghost use Rattle.checker.specs.TermVerdict.{termVerdict, OpensTerm};
+use super::Checked;
+use super::Verdict;
+use super::answer;
+use super::check_header;
+use super::check_variable;
+use super::number_of;
+use super::record_kind;
+use super::worst;
+use buffer::get_u16;
+use buffer::get_u32;
+
+// What a term's head leaves to check.
+pub enum Opened {
+    // Nothing: a tuple, or no term.
+    Whole(Verdict),
+    // The last term of a let-one or a rec, by where it starts, beside the verdict on what stands before it.
+    Last(Verdict, usize),
+    // Both terms of a let-all, by where the second starts.
+    Two(usize),
+}
+
+fn check_atom(s: &[u8], k: u32) -> Verdict
+    ensures { λ r. ⌜ r ≡ verdict (atomInRange k) (onlyAtom (now (s .entry))) ⌝ }
+{
+    if s.len() != 8 {
+        return Verdict::Malformed;
+    }
+    let kind = record_kind(s);
+    match kind {
+        32 => Verdict::Good,
+        33 => check_variable(get_u32(s, 4), k),
+        _ => Verdict::Malformed,
+    }
+}
+
+// The length is that of k atoms, so as many turns are taken as there are atoms.
+fn check_atoms(s: &[u8], k: u32) -> Verdict
+    ensures { λ r. ⌜ r ≡ verdict (atomsInRange k) (decodeAtoms k (now (s .entry))) ⌝ }
+{
+    if s.len() != 8 * (k as usize) {
+        return Verdict::Malformed;
+    }
+    let mut found = Verdict::Good;
+    let mut left = s;
+    while 0 < left.len() {
+        found = worst(found, check_atom(&left[..8], k));
+        left = &left[8..];
+    }
+    found
+}
+
+fn check_tuple(s: &[u8], k: u32) -> Verdict
+    ensures { λ r. ⌜ r ≡ verdict (atomsInRange k) (onlyTuple k (now (s .entry))) ⌝ }
+{
+    if record_kind(s) != 36 {
+        return Verdict::Malformed;
+    }
+    check_atoms(&s[4..], k)
+}
+
+// What a let-one binds.
+fn check_simple(s: &[u8], k: u32) -> Verdict
+    ensures { λ r. ⌜ r ≡ verdict (simpleInRange k) (onlySimple (now (s .entry))) ⌝ }
+{
+    let kind = record_kind(s);
+    match kind {
+        34..=35 => check_atom(&s[4..], k),
+        _ => check_atom(s, k),
+    }
+}
+
+fn open_let_one(s: &[u8], k: u32) -> Opened
+    requires { ⌜ recordKind (now s) ≡ 37 ⌝ }
+    ensures { λ r. ⌜ OpensTerm k (now (s .entry)) r ⌝ }
+{
+    if s.len() < 12 {
+        return Opened::Whole(Verdict::Malformed);
+    }
+    let last = 8 + get_u16(s, 8);
+    if s.len() < last {
+        return Opened::Whole(Verdict::Malformed);
+    }
+    let bound = worst(
+        check_variable(get_u32(s, 4), k),
+        check_simple(&s[8..last], k),
+    );
+    Opened::Last(bound, last)
+}
+
+fn open_let_all(s: &[u8], k: u32) -> Opened
+    requires { ⌜ recordKind (now s) ≡ 38 ⌝ }
+    ensures { λ r. ⌜ OpensTerm k (now (s .entry)) r ⌝ }
+{
+    if s.len() < 8 {
+        return Opened::Whole(Verdict::Malformed);
+    }
+    let second = 4 + get_u16(s, 4);
+    if s.len() < second {
+        return Opened::Whole(Verdict::Malformed);
+    }
+    Opened::Two(second)
+}
+
+fn open_rec(s: &[u8], k: u32) -> Opened
+    requires { ⌜ recordKind (now s) ≡ 39 ⌝ }
+    ensures { λ r. ⌜ OpensTerm k (now (s .entry)) r ⌝ }
+{
+    let last = 20 + 8 * (k as usize);
+    if s.len() < last {
+        return Opened::Whole(Verdict::Malformed);
+    }
+    let count = worst(check_variable(get_u32(s, 4), k), check_atom(&s[8..16], k));
+    Opened::Last(worst(count, check_tuple(&s[16..last], k)), last)
+}
+
+fn open_term(s: &[u8], k: u32) -> Opened
+    ensures { λ r. ⌜ OpensTerm k (now (s .entry)) r ⌝ }
+{
+    let kind = record_kind(s);
+    match kind {
+        36 => Opened::Whole(check_atoms(&s[4..], k)),
+        37 => open_let_one(s, k),
+        38 => open_let_all(s, k),
+        39 => open_rec(s, k),
+        _ => Opened::Whole(Verdict::Malformed),
+    }
+}
+
+// Of a let-all's two terms the shorter is checked by a call and the longer by the next turn, so the calls nest no deeper
+// than the logarithm of the length.
+pub fn check_term_contents(s: &[u8], k: u32) -> Verdict
+    ensures { λ r. ⌜ r ≡ termVerdict k (termIn k (now (s .entry))) ⌝ }
+{
+    let mut found = Verdict::Good;
+    let mut left = s;
+    loop {
+        let opened = open_term(left, k);
+        match opened {
+            Opened::Whole(v) => return worst(found, v),
+            Opened::Last(v, last) => {
+                found = worst(found, v);
+                left = &left[last..];
+            }
+            Opened::Two(second) => {
+                if second - 4 <= left.len() - second {
+                    found = worst(found, check_term_contents(&left[4..second], k));
+                    left = &left[second..];
+                } else {
+                    found = worst(found, check_term_contents(&left[second..], k));
+                    left = &left[4..second];
+                }
+            }
+        }
+    }
+}
+
+pub fn check_term(buf: &[u8], used: usize) -> Checked
+    ensures { λ r. ⌜ asChecked r ≡ checkTerm (now (buf .entry)) used ⌝ }
+{
+    let number = check_header(buf, used, 40);
+    if number != 0 {
+        return answer(number, 0);
+    }
+    let k = get_u32(buf, 4);
+    answer(
+        number_of(check_term_contents(&buf[record::HEADER_LENGTH..used], k)),
+        k,
+    )
+}
