@@ -10,3 +10,10 @@ pub extern "C" fn vistrokk_check_program(buf: &[u8], used: usize) -> checker::Ch
 {
     checker::program::check_program(buf, used)
 }
+
+#[no_mangle]
+pub extern "C" fn vistrokk_check_term(buf: &[u8], used: usize) -> checker::Checked
+    ensures { λ r. ⌜ asChecked r ≡ checkTerm (now (buf .entry)) used ⌝ }
+{
+    checker::term::check_term(buf, used)
+}
