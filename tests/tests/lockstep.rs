@@ -1,7 +1,8 @@
 //! Lock step by trial (01, "Run orders"): lists of runs in any mixture of the two engines, refused
 //! ones among them, and the two states compared wherever the totals agree.
 
-use other::calls::{check_program, run_reducer, run_stepper, substitute, translate, Ran};
+use other::both::{check_program, run_reducer, run_stepper, substitute, translate};
+use other::calls::Ran;
 use other::codec::{hex, Record};
 use other::examples::examples;
 use other::generate::lend;

@@ -1,9 +1,9 @@
 //! Rows 1 to 5 of 01's table: each damage gives the row it was made for, in every call.
 
-use other::calls::{
+use other::both::{
     check_program, check_term, read_back, result, run_reducer, run_stepper, substitute, translate,
-    Checked, Ran, Written,
 };
+use other::calls::{Checked, Ran, Written};
 use other::codec::{hex, kind, Record};
 use other::examples::{add, nest_of_blocks, row_of_blocks};
 use other::generate::damage::{
