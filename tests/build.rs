@@ -1,4 +1,4 @@
-//! Links the proved library as soon as one of its calls is to be tested.
+//! Links the proved library as soon as one of its calls is to be tested, and sets the cfg `library`.
 //!
 //! The archive is `../target/staticlib/libvistrokk.a`, or the file that VISTROKK_LIBRARY names.
 
@@ -20,7 +20,9 @@ const CALLS: [&str; 5] = [
 fn main() {
     println!("cargo:rerun-if-changed=build.rs");
     println!("cargo:rerun-if-env-changed={VARIABLE}");
+    println!("cargo:rustc-check-cfg=cfg(library)");
     if CALLS.iter().any(|call| env::var_os(call).is_some()) {
+        println!("cargo:rustc-cfg=library");
         link(&archive());
     }
 }

@@ -43,13 +43,7 @@ pub use crate::calls::run_reducer;
 pub use reducer::run_reducer;
 
 /// Fails unless the library's answer is the other program's.
-#[cfg(any(
-    feature = "check",
-    feature = "terms",
-    feature = "weigh",
-    feature = "stepper",
-    feature = "reducer"
-))]
+#[cfg(library)]
 fn same<A: PartialEq + std::fmt::Debug>(library: A, other: A, case: impl Fn() -> String) {
     assert!(
         library == other,

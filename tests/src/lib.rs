@@ -13,13 +13,18 @@ pub mod calls;
 pub mod check;
 pub mod codec;
 pub mod examples;
+pub mod extremes;
 pub mod generate;
+#[cfg(library)]
 pub mod lent;
+#[cfg(library)]
 pub mod library;
 pub mod line;
 pub mod random;
 pub mod read_back;
 pub mod run;
+#[cfg(library)]
+pub mod stack;
 pub mod substitute;
 pub mod translate;
 pub mod tree;
