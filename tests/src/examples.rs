@@ -1,7 +1,9 @@
 //! 01's examples (its bench loads), with the values that 01 gives for them.
 
+use crate::codec::Record;
 use crate::run::Outcome;
-use crate::tree::{Block, Bound, Command, Expr, Program, Value};
+use crate::translate::translate;
+use crate::tree::{Atom, Block, Bound, Command, Expr, Program, Simple, Term, TermRecord, Value};
 
 /// A program, a start store, and what 01 says of the run.
 pub struct Example {
@@ -79,6 +81,39 @@ fn one(k: u32, command: Command) -> Program {
     program(k, vec![command])
 }
 
+/// Records of programs in which every kind that a program can hold occurs.
+pub fn sample_programs() -> [Vec<u8>; 2] {
+    let inner = vec![Command::Assign(2, Expr::Literal(6)), Command::Block(vec![])];
+    let body = vec![Command::Assign(1, Expr::MinusOne(3))];
+    let block = vec![
+        Command::Block(inner),
+        Command::Loop(3, Bound::Literal(2), body),
+        Command::Assign(1, Expr::Variable(2)),
+    ];
+    [add().encode(), program(3, block).encode()]
+}
+
+/// Records of terms in which every kind that a term can hold occurs: a translation, an open term,
+/// and a closed one at k = 1, where a let-all of a tuple has the very shape of a let-one.
+pub fn sample_terms() -> [Vec<u8>; 3] {
+    let tuple = |a, b| vec![Atom::Numeral(a), Atom::Variable(b)];
+    let body = Box::new(Term::Tuple(tuple(8, 2)));
+    let rec = Term::Rec(2, Atom::Numeral(5), tuple(4, 1), body);
+    let pred = Term::LetOne(1, Simple::Pred(Atom::Variable(2)), Box::new(rec));
+    let numeral = Term::LetOne(2, Simple::Atom(Atom::Numeral(7)), Box::new(pred));
+    let open = Term::LetAll(Box::new(Term::Tuple(tuple(9, 2))), Box::new(numeral));
+    let one = |atom| Term::Tuple(vec![atom]);
+    let succ = Simple::Succ(Atom::Variable(1));
+    let last = Term::LetOne(1, succ, Box::new(one(Atom::Variable(1))));
+    let rec = Term::Rec(1, Atom::Numeral(2), vec![Atom::Numeral(3)], Box::new(last));
+    let closed = Term::LetAll(Box::new(one(Atom::Numeral(6))), Box::new(rec));
+    [
+        translate(&add()).encode(),
+        TermRecord { k: 2, term: open }.encode(),
+        TermRecord { k: 1, term: closed }.encode(),
+    ]
+}
+
 /// A program of `count` empty blocks in a row.
 pub fn row_of_blocks(k: u32, count: usize) -> Program {
     program(k, vec![Command::Block(vec![]); count])
@@ -87,5 +122,12 @@ pub fn row_of_blocks(k: u32, count: usize) -> Program {
 /// A program of `depth` blocks, each the only command of the one around it.
 pub fn nest_of_blocks(k: u32, depth: usize) -> Program {
     let wrap = |inner, _| vec![Command::Block(inner)];
+    program(k, (0..depth).fold(vec![], wrap))
+}
+
+/// A program of `depth` loops with index x1, each of so many turns and the only command of the one
+/// around it.
+pub fn nest_of_loops(k: u32, turns: Value, depth: usize) -> Program {
+    let wrap = |body, _| vec![Command::Loop(1, Bound::Literal(turns), body)];
     program(k, (0..depth).fold(vec![], wrap))
 }

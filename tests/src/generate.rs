@@ -1,6 +1,7 @@
 //! Seeded generators: sound programs and terms, damaged records, stores, budgets, lists of runs.
 
 pub mod damage;
+pub mod lending;
 pub mod programs;
 pub mod raw;
 pub mod runs;

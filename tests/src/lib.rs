@@ -4,18 +4,27 @@
 //! tree, the rule is applied to the tree, and the tree is encoded again. The proved library works
 //! on the bytes in place; where the two differ on any input, one of them is wrong.
 //!
+//! Beside it stands what compares the two: `library` calls the proved one, `both` calls both.
+//!
 //! "01" in a comment is that document, followed by the heading the rule stands under.
 
+pub mod both;
 pub mod calls;
 pub mod check;
 pub mod codec;
 pub mod examples;
+pub mod extremes;
 pub mod generate;
+#[cfg(library)]
+pub mod lent;
+#[cfg(library)]
+pub mod library;
 pub mod line;
-
 pub mod random;
 pub mod read_back;
 pub mod run;
+#[cfg(library)]
+pub mod stack;
 pub mod substitute;
 pub mod translate;
 pub mod tree;

@@ -1,6 +1,7 @@
 //! The figures that 01 states, each as it stands there or worked out by hand from its rules.
 
-use other::calls::{run_reducer, run_stepper, translate, Ran};
+use other::both::{run_reducer, run_stepper, translate};
+use other::calls::Ran;
 use other::codec::Record;
 use other::examples::{add, examples, nest_of_blocks, row_of_blocks, Example};
 use other::generate::lend;

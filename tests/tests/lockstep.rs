@@ -1,7 +1,8 @@
 //! Lock step by trial (01, "Run orders"): lists of runs in any mixture of the two engines, refused
 //! ones among them, and the two states compared wherever the totals agree.
 
-use other::calls::{check_program, run_reducer, run_stepper, substitute, translate, Ran};
+use other::both::{check_program, run_reducer, run_stepper, substitute, translate};
+use other::calls::Ran;
 use other::codec::{hex, Record};
 use other::examples::examples;
 use other::generate::lend;
@@ -50,20 +51,27 @@ impl Side {
 }
 
 impl World {
-    /// The start: the stepper has the program and the store, the reducer the program's translation
-    /// with that store substituted.
+    /// The start, by the calls themselves: the stepper has the program and the store, the reducer
+    /// the program's translation with that store substituted. What stands behind the two records
+    /// is not zero.
     fn start(config: &Config, room: usize, other_room: usize) -> World {
-        let (program, term) = (config.program.encode(), config.term().encode());
-        let side = |record: &[u8], room| Side {
-            buffer: lend(record, room),
-            used: record.len(),
+        let program = config.program.encode();
+        let stepper = lend(&program, room);
+        let checked = check_program(&stepper, program.len());
+        assert_eq!(checked.number, 0);
+        let mut out = vec![0; other_room];
+        let term = translate(&stepper, program.len(), &mut out).used as usize;
+        assert_eq!(substitute(&mut out, term, &config.store).number, 0);
+        let side = |buffer, used| Side {
+            buffer,
+            used,
             total: 0,
         };
         World {
-            k: config.program.k,
-            stepper: side(&program, room),
+            k: checked.k,
+            stepper: side(stepper, program.len()),
             store: config.store.clone(),
-            reducer: side(&term, other_room),
+            reducer: side(lend(&out[..term], other_room), term),
             seen: Seen::default(),
         }
     }
@@ -166,12 +174,20 @@ fn generated(random: &mut Random) -> (World, Vec<Run>) {
     let store = store(random, program.k);
     let config = Config { program, store };
     let extra = *random.pick(&[1, 100, 400, 1_500]);
-    let room = config.state_len() + random.below(extra);
+    let room = some_room(random, config.state_len(), extra);
     let term = config.term();
-    let other_room = term.state_len() + random.below(4 * extra);
+    let other_room = some_room(random, term.state_len(), 4 * extra);
     let ends = ends_within(&config, room, 3_000) && ends_within(&term, other_room, 3_000);
     let list = runs(random, config.program.k, ends);
     (World::start(&config, room, other_room), list)
+}
+
+/// So many bytes more, or now and then all that may be lent.
+fn some_room(random: &mut Random, least: usize, extra: usize) -> usize {
+    if random.one_in(10) {
+        return 16_384;
+    }
+    least + random.below(extra)
 }
 
 #[test]
@@ -199,43 +215,21 @@ fn totals_that_agree_have_states_that_agree() {
     seen.assert_at_least([8_000, 3_000, 2_000, 100, 2_000]);
 }
 
-/// Step by step through the examples, from the real calls of check, translate and substitute: one
-/// step of each engine at a time, compared at every total.
+/// Step by step through the examples: one step of each engine at a time, compared at every total.
 #[test]
 fn the_examples_in_single_steps() {
     for example in examples() {
-        let config = lend(&example.program.encode(), 1_000);
-        let length = example.program.encoded_len();
-        let k = check_program(&config, length).k;
-        let mut term = vec![0xA5; 1_000];
-        let written = translate(&config, length, &mut term);
-        let used = written.used as usize;
-        assert_eq!(substitute(&mut term, used, &example.store).number, 0);
-        let side = |buffer, used| Side {
-            buffer,
-            used,
-            total: 0,
-        };
-        let mut world = World {
-            k,
-            stepper: side(config, length),
-            store: example.store.clone(),
-            reducer: side(term, used),
-            seen: Seen::default(),
-        };
+        let (program, store) = (example.program, example.store);
+        let mut world = World::start(&Config { program, store }, 1_000, 1_000);
         for _ in 0..=example.steps {
             world.compare();
             world.play(&single(Engine::Stepper));
             world.play(&single(Engine::Reducer));
         }
-        assert_eq!(world.seen.met, example.steps + 1, "{}", example.name);
-        assert_eq!(
-            world.stepper.total,
-            u64::from(example.steps),
-            "{}",
-            example.name
-        );
-        assert_eq!(world.store, example.end, "{}", example.name);
+        let name = example.name;
+        assert_eq!(world.seen.met, example.steps + 1, "{name}");
+        assert_eq!(world.stepper.total, u64::from(example.steps), "{name}");
+        assert_eq!(world.store, example.end, "{name}");
     }
 }
 

@@ -1,7 +1,9 @@
 //! 01's "Mistakes that pass a quick trial", each with the value that its rules give.
 
+use other::both::{run_reducer, run_stepper};
 use other::codec::Record;
 use other::examples::program;
+use other::generate::lend;
 use other::run::stepper::Config;
 use other::run::{run, Outcome};
 use other::substitute::{substitute, values_of};
@@ -17,12 +19,29 @@ fn assign(variable: u32, expr: Expr) -> Command {
 fn both(block: Block, store: &[u32], budget: u32) -> (Outcome, u32, Config) {
     let program = program(store.len() as u32, block);
     let store = store.to_vec();
-    let mut config = Config { program, store };
-    let mut term = config.term();
+    let start = Config { program, store };
+    let (mut config, mut term) = (start.clone(), start.term());
     let ended = run(&mut config, ROOM, budget);
     assert_eq!(run(&mut term, ROOM, budget), ended);
     assert_eq!(term, config.term());
+    over_bytes(&start, budget, ended, &config);
     (ended.0, ended.1, config)
+}
+
+/// The same over bytes, by the two calls.
+fn over_bytes(start: &Config, budget: u32, ended: (Outcome, u32), end: &Config) {
+    let wanted = (0, ended.0.number(), ended.1);
+    let record = start.program.encode();
+    let (mut buffer, mut store) = (lend(&record, ROOM), start.store.clone());
+    let ran = run_stepper(&mut buffer, record.len(), &mut store, budget);
+    assert_eq!((ran.number, ran.outcome, ran.steps), wanted);
+    assert_eq!(buffer[..ran.used as usize], end.program.encode());
+    assert_eq!(store, end.store);
+    let record = start.term().encode();
+    let mut buffer = lend(&record, ROOM);
+    let ran = run_reducer(&mut buffer, record.len(), budget);
+    assert_eq!((ran.number, ran.outcome, ran.steps), wanted);
+    assert_eq!(buffer[..ran.used as usize], end.term().encode());
 }
 
 fn finished(block: Block, store: &[u32]) -> (u32, Vec<u32>) {

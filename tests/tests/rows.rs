@@ -1,11 +1,11 @@
 //! Rows 1 to 5 of 01's table: each damage gives the row it was made for, in every call.
 
-use other::calls::{
+use other::both::{
     check_program, check_term, read_back, result, run_reducer, run_stepper, substitute, translate,
-    Checked, Ran, Written,
 };
+use other::calls::{Checked, Ran, Written};
 use other::codec::{hex, kind, Record};
-use other::examples::{add, nest_of_blocks, row_of_blocks};
+use other::examples::{add, nest_of_blocks, row_of_blocks, sample_programs, sample_terms};
 use other::generate::damage::{
     apply, breaks, cut, damaged, flipped, let_all_to_let_one, wrong_variables, Damaged, WRONG_K,
 };
@@ -13,43 +13,20 @@ use other::generate::programs::program;
 use other::generate::raw::Raw;
 use other::generate::terms::{any_term, closed_term, translation, SHORTEST};
 use other::random::{cases, Counts, Random};
-use other::translate::translate as translation_of;
-use other::tree::{with_big_stack, Atom, Bound, Command, Expr, Program, Simple, Term, TermRecord};
+use other::tree::{with_big_stack, Command, Expr, Program, TermRecord};
 
 type Check = fn(&[u8], usize) -> Checked;
 
-/// A program and a term in which every kind of the grammar occurs.
-fn samples() -> [(Check, Vec<u8>); 4] {
-    let other = Program {
-        k: 3,
-        block: vec![
-            Command::Block(vec![
-                Command::Assign(2, Expr::Literal(6)),
-                Command::Block(vec![]),
-            ]),
-            Command::Loop(
-                3,
-                Bound::Literal(2),
-                vec![Command::Assign(1, Expr::MinusOne(3))],
-            ),
-            Command::Assign(1, Expr::Variable(2)),
-        ],
-    };
-    let tuple = |a, b| vec![Atom::Numeral(a), Atom::Variable(b)];
-    let rec = Term::Rec(
-        2,
-        Atom::Numeral(5),
-        tuple(4, 1),
-        Box::new(Term::Tuple(tuple(8, 2))),
-    );
-    let pred = Term::LetOne(1, Simple::Pred(Atom::Variable(2)), Box::new(rec));
-    let numeral = Term::LetOne(2, Simple::Atom(Atom::Numeral(7)), Box::new(pred));
-    let term = Term::LetAll(Box::new(Term::Tuple(tuple(9, 2))), Box::new(numeral));
+/// Two programs and three terms in which every kind of the grammar occurs, each with its check.
+fn samples() -> [(Check, Vec<u8>); 5] {
+    let [add, program] = sample_programs();
+    let [translation, open, closed] = sample_terms();
     [
-        (check_program, add().encode()),
-        (check_program, other.encode()),
-        (check_term, translation_of(&add()).encode()),
-        (check_term, TermRecord { k: 2, term }.encode()),
+        (check_program, add),
+        (check_program, program),
+        (check_term, translation),
+        (check_term, open),
+        (check_term, closed),
     ]
 }
 
@@ -120,7 +97,7 @@ fn every_variable_at_every_level_is_looked_at() {
                 );
             }
         }
-        assert!(looked_at >= 6);
+        assert!(looked_at >= 4);
     }
 }
 
@@ -207,7 +184,7 @@ fn k_from_1_to_16_and_no_other() {
 /// variables depend on k: ADD names x4, so 3 is too few (row 5) and 5 is sound.
 #[test]
 fn another_k_that_is_allowed() {
-    let [(_, mut program), _, (_, mut term), _] = samples();
+    let [(_, mut program), _, (_, mut term), ..] = samples();
     for k in (1..=16).filter(|k| *k != 4) {
         term[4] = k as u8;
         program[4] = k as u8;
@@ -224,11 +201,10 @@ fn another_k_that_is_allowed() {
 /// The caller names which of the two it lends; the other is a wrong kind.
 #[test]
 fn the_other_kind_of_record_is_2() {
-    let [programs @ .., (_, term), (_, other_term)] = samples();
-    for (_, bytes) in programs {
+    for bytes in sample_programs() {
         assert_eq!(check_term(&bytes, bytes.len()), Checked::refused(2));
     }
-    for bytes in [term, other_term] {
+    for bytes in sample_terms() {
         assert_eq!(check_program(&bytes, bytes.len()), Checked::refused(2));
     }
 }

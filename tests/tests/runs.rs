@@ -1,6 +1,7 @@
 //! Runs: outcomes read from the state left, room, budgets, refusals, and the other two calls.
 
-use other::calls::{result, run_reducer, run_stepper, substitute, weigh, Ran};
+use other::both::{result, run_reducer, run_stepper, substitute, weigh};
+use other::calls::Ran;
 use other::codec::{hex, Record};
 use other::examples::{add, examples};
 use other::generate::lend;

@@ -1,6 +1,7 @@
 //! Translation, read-back, substitution and free variables.
 
-use other::calls::{read_back, substitute, translate, Written};
+use other::both::{read_back, substitute, translate};
+use other::calls::Written;
 use other::codec::{hex, Record};
 use other::examples::{add, row_of_blocks};
 use other::generate::lend;

@@ -165,7 +165,7 @@ fn whole(buffer: Vec<u8>) -> Damaged {
 }
 
 /// Row 5, at any record that names a variable; false where there is none.
-fn name_a_wrong_variable(random: &mut Random, raw: &mut Raw, k: u32) -> bool {
+pub fn name_a_wrong_variable(random: &mut Random, raw: &mut Raw, k: u32) -> bool {
     let places: Vec<usize> = (0..raw.count())
         .filter(|n| raw.node_mut(*n).names_a_variable())
         .collect();
@@ -178,7 +178,7 @@ fn name_a_wrong_variable(random: &mut Random, raw: &mut Raw, k: u32) -> bool {
 }
 
 /// Row 4, at any record.
-fn break_one(random: &mut Random, raw: &mut Raw) {
+pub fn break_one(random: &mut Random, raw: &mut Raw) {
     let place = random.below(raw.count());
     let record = raw.node_mut(place);
     let done = random.pick(&breaks(record, place == 0)).clone();

@@ -48,7 +48,7 @@ fn one_run(random: &mut Random, k: u32, ends: bool) -> Run {
     }
 }
 
-fn any_used(random: &mut Random) -> usize {
+pub fn any_used(random: &mut Random) -> usize {
     match random.below(4) {
         0 => random.below(13),
         1 => random.below(600),

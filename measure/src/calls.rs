@@ -1,0 +1,47 @@
+//! Each call that has landed against the other program, and against a plain version on bytes where
+//! there is one.
+//!
+//! A call that writes its input gets it anew each time, so the times of such a call have that of a
+//! copy of the buffer in them. Every buffer is 16,384 bytes long.
+
+#[cfg(feature = "check")]
+mod check;
+#[cfg(feature = "reducer")]
+mod reducer;
+#[cfg(feature = "stepper")]
+mod stepper;
+#[cfg(feature = "terms")]
+mod terms;
+#[cfg(feature = "weigh")]
+mod weigh;
+
+use crate::timing::best;
+
+pub fn print() {
+    println!("The calls, nanoseconds: the library, the other program (trees), plain Rust on bytes");
+    println!(
+        "{:<15}{:<28}{:>11}{:>11}{:>7}{:>11}{:>7}",
+        "", "on", "library", "other", "ratio", "plain", "ratio"
+    );
+    #[cfg(feature = "check")]
+    check::print();
+    #[cfg(feature = "terms")]
+    terms::print();
+    #[cfg(feature = "weigh")]
+    weigh::print();
+    #[cfg(feature = "stepper")]
+    stepper::print();
+    #[cfg(feature = "reducer")]
+    reducer::print();
+    println!();
+}
+
+/// One line of the table: the library first, then the other program, then the plain version.
+fn row(call: &str, on: &str, work: &mut [&mut dyn FnMut()]) {
+    let times = best(work);
+    print!("{call:<15}{on:<28}{:>11.0}", times[0]);
+    for time in &times[1..] {
+        print!("{time:>11.0}{:>7.2}", times[0] / time);
+    }
+    println!();
+}

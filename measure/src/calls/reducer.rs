@@ -1,0 +1,55 @@
+use std::hint::black_box;
+
+use super::row;
+use crate::plain;
+use other::calls;
+use other::codec::Record;
+use other::examples::{add, nest_of_blocks, nest_of_loops};
+use other::generate::lend;
+use other::library;
+use other::run::stepper::Config;
+
+/// Runs to the end, as of the stepper; terms are longer, so 200 turns and 1,022 blocks.
+pub fn print() {
+    let runs = [
+        ("ADD on 7, 3: 18 steps", add(), vec![7, 3, 0, 0]),
+        ("ADD on 7, 200: 1,003 steps", add(), vec![7, 200, 0, 0]),
+        (
+            "4 loops of 9: 23,780 steps",
+            nest_of_loops(1, 9, 4),
+            vec![5],
+        ),
+        (
+            "1,022 nested: 1,022 steps",
+            nest_of_blocks(1, 1_022),
+            vec![5],
+        ),
+    ];
+    for (on, program, store) in runs {
+        run(on, &Config { program, store }.term().encode());
+    }
+}
+
+fn run(on: &str, record: &[u8]) {
+    let (fresh, used) = (lend(record, 16_384), record.len());
+    let mut copies = [(); 3].map(|()| fresh.clone());
+    let [one, two, three] = &mut copies;
+    row(
+        "run_reducer",
+        on,
+        &mut [
+            &mut || {
+                one.copy_from_slice(&fresh);
+                black_box(library::run_reducer(one, used, 100_000));
+            },
+            &mut || {
+                two.copy_from_slice(&fresh);
+                black_box(calls::run_reducer(two, used, 100_000));
+            },
+            &mut || {
+                three.copy_from_slice(&fresh);
+                black_box(plain::reducer::run_reducer(three, used, 100_000));
+            },
+        ],
+    );
+}

@@ -1,0 +1,159 @@
+//! The calls as they would be written on bytes in plain Rust: in place, with no tree and no heap,
+//! with recursion where the grammar has it, and with no proof. What the library is to be held to.
+
+pub mod check;
+pub mod reducer;
+pub mod stepper;
+pub mod substitute;
+
+use other::calls::{self, Ran};
+use other::codec::Record;
+use other::generate::lending::{
+    closed, perhaps_damaged, sound_term, translatable_program, Lending,
+};
+use other::generate::programs::store;
+use other::random::Random;
+use other::run::Outcome;
+use other::substitute::{substitute as substitute_in, values_of};
+
+fn half(bytes: &[u8], at: usize) -> usize {
+    usize::from(u16::from_le_bytes([bytes[at], bytes[at + 1]]))
+}
+
+fn word(bytes: &[u8], at: usize) -> u32 {
+    u32::from_le_bytes([bytes[at], bytes[at + 1], bytes[at + 2], bytes[at + 3]])
+}
+
+fn put_half(bytes: &mut [u8], at: usize, value: usize) {
+    bytes[at..at + 2].copy_from_slice(&(value as u16).to_le_bytes());
+}
+
+fn put_word(bytes: &mut [u8], at: usize, value: u32) {
+    bytes[at..at + 4].copy_from_slice(&value.to_le_bytes());
+}
+
+fn put_head(bytes: &mut [u8], at: usize, length: usize, kind: usize) {
+    put_half(bytes, at, length);
+    put_half(bytes, at + 2, kind);
+}
+
+/// A record of one word.
+fn put_leaf(bytes: &mut [u8], at: usize, kind: usize, value: u32) {
+    put_head(bytes, at, 8, kind);
+    put_word(bytes, at + 4, value);
+}
+
+/// A record that is reduced or stepped in place, and the length it has by now.
+struct State<'a> {
+    buf: &'a mut [u8],
+    used: usize,
+}
+
+impl State<'_> {
+    /// Makes room for `wide` bytes where there are `narrow` at `at`, and tells all records around:
+    /// the header, and the heads that follow each other from 8 to `at`.
+    fn resize(&mut self, at: usize, narrow: usize, wide: usize) {
+        self.buf.copy_within(at + narrow..self.used, at + wide);
+        for head in [0].into_iter().chain((8..at).step_by(4)) {
+            let length = half(self.buf, head) - narrow + wide;
+            put_half(self.buf, head, length);
+        }
+        self.used = self.used - narrow + wide;
+    }
+
+    fn fits(&self, narrow: usize, wide: usize) -> bool {
+        self.used - narrow + wide <= self.buf.len()
+    }
+
+    fn end(self, outcome: Outcome, steps: u32, budget: u32) -> Ran {
+        self.buf[self.used..].fill(0);
+        Ran {
+            number: 0,
+            outcome: outcome.number(),
+            steps,
+            left: budget - steps,
+            used: self.used as u32,
+        }
+    }
+}
+
+/// What stands before a state, and the step that it leads to: the bytes it takes at its place, and
+/// those that it puts there.
+enum Ahead {
+    Finished,
+    Over,
+    Step {
+        at: usize,
+        narrow: usize,
+        wide: usize,
+    },
+}
+
+/// The run that both engines share: what a step needs is looked at before it is made.
+fn run(
+    mut state: State,
+    budget: u32,
+    ahead: impl Fn(&State) -> Ahead,
+    mut perform: impl FnMut(&mut State, usize, usize, usize),
+) -> Ran {
+    let mut steps = 0;
+    loop {
+        let (at, narrow, wide) = match ahead(&state) {
+            Ahead::Finished => return state.end(Outcome::Finished, steps, budget),
+            Ahead::Over => return state.end(Outcome::Over, steps, budget),
+            Ahead::Step { at, narrow, wide } => (at, narrow, wide),
+        };
+        if !state.fits(narrow, wide) {
+            return state.end(Outcome::NoRoom, steps, budget);
+        }
+        if steps == budget {
+            return state.end(Outcome::Spent, steps, budget);
+        }
+        perform(&mut state, at, narrow, wide);
+        steps += 1;
+    }
+}
+
+/// Fails unless the plain calls do what the other program does: the time of anything else says
+/// nothing. Records and buffers are generated as for the tests.
+pub fn agree() {
+    for seed in 0..3_000 {
+        let random = &mut Random::new(seed);
+        let program = translatable_program(random);
+        let mut term = if random.one_in(2) {
+            closed(random)
+        } else {
+            sound_term(random)
+        };
+        let (budget, values) = (random.below(100) as u32, store(random, program.k));
+        agree_on_program(&perhaps_damaged(random, &program.encode()), &values, budget);
+        agree_on_term(&perhaps_damaged(random, &term.encode()), &values, budget);
+        let values = store(random, term.k);
+        agree_on_term(&perhaps_damaged(random, &term.encode()), &values, budget);
+        substitute_in(&mut term.term, &values_of(&values));
+        agree_on_term(&perhaps_damaged(random, &term.encode()), &values, budget);
+    }
+}
+
+fn agree_on_program(Lending { buffer, used }: &Lending, values: &[u32], budget: u32) {
+    let checked = check::check_program(buffer, *used);
+    assert_eq!(checked, calls::check_program(buffer, *used));
+    let (mut buf, mut store) = (buffer.clone(), values.to_vec());
+    let ran = stepper::run_stepper(&mut buf, *used, &mut store, budget);
+    let (mut other_buf, mut other_store) = (buffer.clone(), values.to_vec());
+    let other = calls::run_stepper(&mut other_buf, *used, &mut other_store, budget);
+    assert_eq!((ran, buf, store), (other, other_buf, other_store));
+}
+
+fn agree_on_term(Lending { buffer, used }: &Lending, values: &[u32], budget: u32) {
+    let checked = check::check_term(buffer, *used);
+    assert_eq!(checked, calls::check_term(buffer, *used));
+    let (mut buf, mut other_buf) = (buffer.clone(), buffer.clone());
+    let written = substitute::substitute(&mut buf, *used, values);
+    assert_eq!(written, calls::substitute(&mut other_buf, *used, values));
+    assert_eq!(buf, other_buf);
+    let (mut buf, mut other_buf) = (buffer.clone(), buffer.clone());
+    let ran = reducer::run_reducer(&mut buf, *used, budget);
+    assert_eq!(ran, calls::run_reducer(&mut other_buf, *used, budget));
+    assert_eq!(buf, other_buf);
+}

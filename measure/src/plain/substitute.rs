@@ -1,0 +1,86 @@
+//! Substitution along the one path on which a variable can be free, and the test for one.
+
+use super::{half, put_head, put_word, word};
+use other::calls::Written;
+
+/// The value of each variable, its number the index; none for one that stays.
+pub type Values = [Option<u32>; 17];
+
+pub fn substitute(buf: &mut [u8], used: usize, store: &[u32]) -> Written {
+    let checked = super::check::check_term(buf, used);
+    if checked.number != 0 {
+        return Written::refused(checked.number);
+    }
+    if store.len() != checked.k as usize {
+        return Written::refused(6);
+    }
+    let mut values = [None; 17];
+    for (variable, value) in store.iter().enumerate() {
+        values[variable + 1] = Some(*value);
+    }
+    fill(buf, 8, values);
+    buf[used..].fill(0);
+    Written {
+        number: 0,
+        used: used as u32,
+    }
+}
+
+/// Puts the values for the variables that are free in the term at this place.
+pub fn fill(buf: &mut [u8], at: usize, values: Values) {
+    walk(at, values, buf, |buf, at, values| {
+        if half(buf, at + 2) == 33 {
+            if let Some(value) = values[word(buf, at + 4) as usize] {
+                put_head(buf, at, 8, 32);
+                put_word(buf, at + 4, value);
+            }
+        }
+    });
+}
+
+/// Whether no variable is free in the term at this place.
+pub fn closed(buf: &mut [u8], at: usize) -> bool {
+    let mut closed = true;
+    walk(at, [Some(0); 17], buf, |buf, at, values| {
+        closed &= half(buf, at + 2) == 32 || values[word(buf, at + 4) as usize].is_none();
+    });
+    closed
+}
+
+/// Every atom at which a variable could be free, with the values that are for it there.
+fn walk(
+    start: usize,
+    mut values: Values,
+    buf: &mut [u8],
+    mut atom: impl FnMut(&mut [u8], usize, &Values),
+) {
+    let mut at = start;
+    loop {
+        match half(buf, at + 2) {
+            37 => {
+                let simple = at + 8;
+                let wrapped = matches!(half(buf, simple + 2), 34 | 35);
+                atom(buf, simple + if wrapped { 4 } else { 0 }, &values);
+                values[word(buf, at + 4) as usize] = None;
+                at = simple + half(buf, simple);
+            }
+            38 => at += 4,
+            39 => {
+                atom(buf, at + 8, &values);
+                return atoms(at + 16, &values, buf, atom);
+            }
+            _ => return atoms(at, &values, buf, atom),
+        }
+    }
+}
+
+fn atoms(
+    tuple: usize,
+    values: &Values,
+    buf: &mut [u8],
+    mut atom: impl FnMut(&mut [u8], usize, &Values),
+) {
+    for at in (tuple + 4..tuple + half(buf, tuple)).step_by(8) {
+        atom(buf, at, values);
+    }
+}

@@ -1,0 +1,11 @@
+//! Weigh.
+
+use super::start_mut;
+
+extern "C" {
+    fn vistrokk_weigh(gross: u32, tare: u32, store: *mut u32, store_len: usize) -> u32;
+}
+
+pub fn weigh(gross: u32, tare: u32, store: &mut [u32]) -> u32 {
+    unsafe { vistrokk_weigh(gross, tare, start_mut(store), store.len()) }
+}

@@ -1,0 +1,162 @@
+//! The library's reducer against the other program's, in bulk. Every call goes through `both`,
+//! which compares; `figures.rs`, `mistakes.rs` and `runs.rs` state what 01 says.
+
+use other::both::run_reducer;
+use other::check::lent;
+use other::codec::Record;
+use other::examples::{examples, nest_of_loops, sample_terms, Example};
+use other::extremes::terms;
+use other::generate::lend;
+use other::generate::lending::{
+    closed, lent_budget, perhaps_damaged, room, sound_term, translatable_program, Lending,
+};
+use other::generate::programs::store;
+use other::generate::runs::{any_used, ends_within};
+use other::random::{cases, Counts, Random};
+use other::run::stepper::Config;
+use other::run::Machine;
+use other::substitute::{closed as is_closed, substitute, values_of};
+use other::tree::{with_big_stack, TermRecord};
+
+/// 01's examples with every budget from nothing to beyond their end, in every room from one byte
+/// less than the record to more than any of their states.
+#[test]
+fn the_examples_in_every_room_with_every_budget() {
+    let seen = Counts::<5>::default();
+    for Example {
+        program,
+        store,
+        steps,
+        ..
+    } in examples()
+    {
+        let record = Config { program, store }.term().encode();
+        for room in record.len() - 1..record.len() + 230 {
+            for budget in (0..steps + 3).chain([u32::MAX]) {
+                let mut buffer = lend(&record, record.len().max(room));
+                buffer.truncate(room);
+                let ran = run_reducer(&mut buffer, record.len(), budget);
+                seen.one(ran.outcome as usize);
+            }
+        }
+    }
+    seen.assert_at_least([50, 2_000, 400, 2_000, 2_000]);
+}
+
+/// A translation with its store, or a closed term that is none.
+fn closed_term(random: &mut Random) -> TermRecord {
+    if random.one_in(2) {
+        return closed(random);
+    }
+    let program = translatable_program(random);
+    let store = store(random, program.k);
+    Config { program, store }.term()
+}
+
+/// Terms, closed and open, buffers, used lengths and budgets of every sort.
+#[test]
+fn generated_runs() {
+    let (rows, outcomes) = (Counts::<8>::default(), Counts::<5>::default());
+    cases(60_000, |random| {
+        let term = if random.one_in(6) {
+            sound_term(random)
+        } else {
+            closed_term(random)
+        };
+        let Lending { mut buffer, used } = perhaps_damaged(random, &term.encode());
+        let ends = match lent::<TermRecord>(&buffer, used) {
+            Ok(term) if is_closed(&term.term) => ends_within(&term, buffer.len(), 2_000),
+            // Refused, so any budget ends.
+            _ => true,
+        };
+        let budget = lent_budget(random, ends);
+        let ran = run_reducer(&mut buffer, used, budget);
+        rows.one(ran.number as usize);
+        outcomes.one(ran.outcome as usize);
+    });
+    rows.assert_at_least([10_000, 1_000, 1_000, 100, 500, 50, 0, 2_000]);
+    outcomes.assert_at_least([5_000, 5_000, 300, 5_000, 5_000]);
+}
+
+/// Lists of runs, each on what the last one left, refused ones among them. The room for most is
+/// tight, so that the steps made before it gives out are looked at as well.
+#[test]
+fn lists_of_runs() {
+    let seen = Counts::<5>::default();
+    cases(12_000, |random| {
+        let term = closed_term(random);
+        let room = room(random, term.state_len());
+        let ends = ends_within(&term, room, 2_000);
+        play(random, &term.encode(), room, ends, &seen);
+    });
+    seen.assert_at_least([5_000, 5_000, 500, 5_000, 3_000]);
+}
+
+fn play(random: &mut Random, record: &[u8], room: usize, ends: bool, seen: &Counts<5>) {
+    let (mut buffer, mut used) = (lend(record, room), record.len());
+    for _ in 0..random.below(10) {
+        let budget = lent_budget(random, ends);
+        let other = any_used(random);
+        let given = if random.one_in(8) { other } else { used };
+        let ran = run_reducer(&mut buffer, given, budget);
+        if ran.number == 0 {
+            used = ran.used as usize;
+        }
+        seen.one(ran.outcome as usize);
+    }
+}
+
+/// Each byte of three terms at each of its 256 values; the two open ones with a store first.
+#[test]
+fn every_byte_at_every_value() {
+    let seen = Counts::<8>::default();
+    for bytes in sample_terms() {
+        let mut term = TermRecord::decode(&bytes).expect("a term");
+        let values = [3, 2, 1, u32::MAX];
+        substitute(&mut term.term, &values_of(&values[..term.k as usize]));
+        let bytes = term.encode();
+        for place in 0..bytes.len() {
+            for value in 0..=255 {
+                let mut buffer = lend(&bytes, 400);
+                buffer[place] = value;
+                let ran = run_reducer(&mut buffer, bytes.len(), 25);
+                seen.one(ran.number as usize);
+            }
+        }
+    }
+    seen.assert_at_least([5_000, 0, 1_000, 500, 10_000, 5_000, 0, 10]);
+}
+
+/// The run of library_stepper.rs, with its numbers.
+#[test]
+fn a_long_run_in_pieces() {
+    let (program, store) = (nest_of_loops(1, 9, 4), vec![5]);
+    let record = Config { program, store }.term().encode();
+    cases(4, |random| {
+        let (mut buffer, mut used, mut total) = (lend(&record, 6_000), record.len(), 0);
+        while total < 23_780 {
+            let budget = *random.pick(&[7, 100, 3_000, 23_780]);
+            let ran = run_reducer(&mut buffer, used, budget);
+            (used, total) = (ran.used as usize, total + ran.steps);
+        }
+        let ran = run_reducer(&mut buffer, used, 1);
+        assert_eq!((ran.outcome, ran.steps, total), (1, 0, 23_780));
+        // The tuple's one numeral: the last turn's index.
+        assert_eq!(buffer[16..20], [9, 0, 0, 0]);
+    });
+}
+
+/// The longest closed terms: a step of the deepest one changes the length of every let-all around.
+#[test]
+fn the_longest_terms() {
+    with_big_stack(|| {
+        for (_, mut term) in terms() {
+            substitute(&mut term.term, &values_of(&[2; 16][..term.k as usize]));
+            let record = term.encode();
+            for (room, budget) in [(16_384, 0), (16_384, 3), (16_384, 5_000), (16_385, 1)] {
+                let mut buffer = lend(&record, room);
+                run_reducer(&mut buffer, record.len(), budget);
+            }
+        }
+    });
+}

@@ -1,0 +1,162 @@
+//! The library's translate, read back, substitute and result against the other program's, in bulk.
+//! Every call goes through `both`, which compares; `terms.rs` and `figures.rs` state what 01 says.
+
+use other::both::{read_back, result, substitute, translate};
+use other::codec::Record;
+use other::examples::{sample_programs, sample_terms};
+use other::generate::lend;
+use other::generate::lending::{
+    lending, lent_store, output_room, perhaps_damaged, sound_program, sound_term,
+    translatable_program, Lending,
+};
+use other::generate::programs::store;
+use other::random::{cases, Counts, Random};
+use other::translate::translate as translation_of;
+use other::tree::{Atom, Term, TermRecord};
+
+/// An output buffer with something in it.
+fn output(random: &mut Random, wanted: usize) -> Vec<u8> {
+    vec![0x5A; output_room(random, wanted)]
+}
+
+/// Programs, most of which have a term that fits, into outputs of just its length, one byte less,
+/// 16,384, one more, and others.
+#[test]
+fn translations_of_generated_programs() {
+    let seen = Counts::<11>::default();
+    cases(40_000, |random| {
+        let program = if random.one_in(8) {
+            sound_program(random)
+        } else {
+            translatable_program(random)
+        };
+        let wanted = translation_of(&program).encoded_len();
+        let Lending { buffer, used } = perhaps_damaged(random, &program.encode());
+        let mut out = output(random, wanted.min(16_384));
+        seen.one(translate(&buffer, used, &mut out).number as usize);
+    });
+    seen.assert_at_least([5_000, 2_000, 500, 100, 500, 50, 0, 0, 0, 0, 5_000]);
+}
+
+/// Back from the term to the program, from terms of every sort.
+#[test]
+fn generated_terms_read_back() {
+    let seen = Counts::<11>::default();
+    cases(40_000, |random| {
+        let (term, wanted) = if random.one_in(2) {
+            let program = translatable_program(random);
+            (translation_of(&program), program.encoded_len())
+        } else {
+            (sound_term(random), 40)
+        };
+        let Lending { buffer, used } = perhaps_damaged(random, &term.encode());
+        let mut out = output(random, wanted);
+        seen.one(read_back(&buffer, used, &mut out).number as usize);
+    });
+    seen.assert_at_least([4_000, 2_000, 500, 100, 500, 50, 0, 0, 0, 4_000, 3_000]);
+}
+
+/// Stores into terms of every sort, closed ones among them: there nothing changes but the bytes
+/// behind. A second time nothing changes at all.
+#[test]
+fn stores_substituted_into_generated_terms() {
+    let seen = Counts::<11>::default();
+    cases(40_000, |random| {
+        let term = sound_term(random);
+        let Lending { mut buffer, used } = perhaps_damaged(random, &term.encode());
+        let values = lent_store(random, term.k);
+        let written = substitute(&mut buffer, used, &values);
+        seen.one(written.number as usize);
+        if written.number == 0 {
+            let once = buffer.clone();
+            substitute(&mut buffer, used, &store(random, term.k));
+            assert_eq!(buffer, once);
+        }
+    });
+    seen.assert_at_least([10_000, 2_000, 500, 100, 500, 50, 2_000, 0, 0, 0, 0]);
+}
+
+/// Results of terms of every sort: finished ones, open tuples, unfinished closed terms and others.
+#[test]
+fn results_of_generated_terms() {
+    let seen = Counts::<11>::default();
+    cases(40_000, |random| {
+        let term = if random.one_in(2) {
+            tuple(random)
+        } else {
+            sound_term(random)
+        };
+        let Lending { buffer, used } = perhaps_damaged(random, &term.encode());
+        let mut values = lent_store(random, term.k);
+        seen.one(result(&buffer, used, &mut values) as usize);
+    });
+    seen.assert_at_least([5_000, 2_000, 500, 100, 500, 50, 2_000, 5_000, 1_000, 0, 0]);
+}
+
+/// A tuple of numerals, at any place of it perhaps a variable.
+fn tuple(random: &mut Random) -> TermRecord {
+    let k = 1 + random.below(16) as u32;
+    let mut atoms: Vec<Atom> = store(random, k).into_iter().map(Atom::Numeral).collect();
+    if random.one_in(3) {
+        let place = random.below(atoms.len());
+        atoms[place] = Atom::Variable(1 + random.below(k as usize) as u32);
+    }
+    let term = Term::Tuple(atoms);
+    TermRecord { k, term }
+}
+
+/// Each byte of each sample at each of its 256 values, through every call that takes such a record.
+#[test]
+fn every_byte_at_every_value() {
+    let seen = Counts::<11>::default();
+    for bytes in sample_programs() {
+        each_change(&bytes, |changed| {
+            let mut out = [0x5A; 250];
+            seen.one(translate(changed, changed.len(), &mut out).number as usize);
+        });
+    }
+    for bytes in sample_terms() {
+        let k = u32::from(bytes[4]) as usize;
+        each_change(&bytes, |changed| {
+            let mut out = [0x5A; 70];
+            seen.one(read_back(changed, changed.len(), &mut out).number as usize);
+            let values = [7, 0, u32::MAX, 20];
+            let mut filled = lend(changed, changed.len() + 3);
+            substitute(&mut filled, changed.len(), &values[..k]);
+            let number = result(changed, changed.len(), &mut [1; 4][..k]);
+            seen.one(number as usize);
+        });
+    }
+    seen.assert_at_least([
+        2_000, 0, 5_000, 5_000, 50_000, 50_000, 0, 4_000, 2_000, 5_000, 10,
+    ]);
+}
+
+fn each_change(bytes: &[u8], test: impl Fn(&[u8])) {
+    for place in 0..bytes.len() {
+        let mut changed = bytes.to_vec();
+        for value in 0..=255 {
+            changed[place] = value;
+            test(&changed);
+        }
+    }
+}
+
+/// The way round through the library alone: program, term, program again, for programs of up to
+/// the greatest length whose term can be lent.
+#[test]
+fn there_and_back() {
+    cases(5_000, |random| {
+        let program = translatable_program(random);
+        let source = program.encode();
+        let Lending { buffer, .. } = lending(random, &source);
+        let mut term = vec![0x5A; 16_384];
+        let there = translate(&buffer, source.len(), &mut term);
+        let mut again = vec![0x5A; source.len()];
+        let back = read_back(&term, there.used as usize, &mut again);
+        if buffer.len() <= 16_384 {
+            assert_eq!((there.number, back.number), (0, 0));
+            assert_eq!(again, source);
+        }
+    });
+}
