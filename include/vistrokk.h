@@ -12,6 +12,9 @@
  *    3  k not 1 to 16
  *    4  bytes outside the grammar
  *    5  a variable number not 1 to k
+ *    6  weighing: the store has not 1 to 16 values
+ *
+ * A store is a pointer to 32-bit values, aligned to 4 bytes, and their number; its first value is variable 1's.
  */
 #ifndef VISTROKK_H
 #define VISTROKK_H
@@ -31,6 +34,10 @@ vistrokk_checked vistrokk_check_program(const uint8_t *buf, size_t buf_len, size
 
 /* Is it a term's record, of k variables? Refusals 1 to 5. Writes nothing. */
 vistrokk_checked vistrokk_check_term(const uint8_t *buf, size_t buf_len, size_t used);
+
+/* A start store from gross and tare in kilograms: variable 1 gets (gross - tare) / 20, rounded down, 0 if tare is the larger;
+ * every other variable 0. Answers 0, or 6 with the store as it was. */
+uint32_t vistrokk_weigh(uint32_t gross, uint32_t tare, uint32_t *store, size_t store_len);
 
 #ifdef __cplusplus
 }

@@ -3,6 +3,7 @@
 ghost use mathlib.Core.Path.{_≡_};
 ghost use Rattle.record.specs.Answers.{checkProgram, checkTerm};
 ghost use Rattle.checker.specs.Answer.{asChecked};
+ghost use Rattle.weighing.specs.Weigh.{weighCall};
 
 #[no_mangle]
 pub extern "C" fn vistrokk_check_program(buf: &[u8], used: usize) -> checker::Checked
@@ -16,4 +17,11 @@ pub extern "C" fn vistrokk_check_term(buf: &[u8], used: usize) -> checker::Check
     ensures { λ r. ⌜ asChecked r ≡ checkTerm (now (buf .entry)) used ⌝ }
 {
     checker::term::check_term(buf, used)
+}
+
+#[no_mangle]
+pub extern "C" fn vistrokk_weigh(gross: u32, tare: u32, store: &mut [u32]) -> u32
+    ensures { λ r. ⌜ (r ≡ (weighCall gross tare (now (store .entry))) .number) × (now (store .exit) ≡ (weighCall gross tare (now (store .entry))) .store) ⌝ }
+{
+    weighing::weigh(gross, tare, store)
 }
