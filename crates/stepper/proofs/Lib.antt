@@ -1,2 +1,2 @@
 pub mod RunStepperLaws
-pub mod PlanLaws
+pub mod LookLaws
