@@ -5,7 +5,9 @@ use mathlib.Core.Logic.{_↔_}
 use mathlib.Core.Bool.{Bool, true}
 use borrow.Author.Tests.{lt-ltb, ltb-true}
 use native.Mathlib.Omega.{arith}
-use Rattle.rules.specs.Store.{Limit, fitsWord, minusOne, noLimit, wordLimit}
+use mathlib.Core.List.{List}
+use lib.ListN.{set}
+use Rattle.rules.specs.Store.{Limit, fitsWord, minusOne, noLimit, update, wordLimit}
 
 -- THE LIMITS: 01's, and none
 
@@ -44,3 +46,9 @@ minusOne-suc n = refl
 pub minusOne-passes : (ok : ℕ → Bool) → Limit ok → (n : ℕ) → ok n ≡ true → ok (minusOne n) ≡ true
 minusOne-passes ok limit zero h = ap ok minusOne-zero ∙ h
 minusOne-passes ok limit (suc n) h = ap ok (minusOne-suc n) ∙ limit .belowPasses n h
+
+-- A STORE CHANGED
+
+pub update-set : (s : List ℕ) (x i v : ℕ) → x ≡ suc i → update s x v ≡ set s i v
+unfolding update
+update-set s x i v e = rw e
