@@ -1,7 +1,7 @@
 // The plan of the next step made in place. Only the bytes of the command and those behind it move; the lengths around it are
 // brought up to date by one loop.
 ghost use mathlib.Core.Path.{_≡_};
-ghost use Prim.Native.Nat.{_+_, _*_, _-_, _≤_};
+ghost use Prim.Native.Nat.{_+_, _*_, _-_, _<_, _≤_};
 ghost use lib.ListN.{length};
 ghost use Rattle.buffer.specs.LittleEndian.{le, val};
 ghost use Rattle.buffer.specs.Slice.{part, put};
@@ -10,8 +10,10 @@ ghost use Rattle.rules.specs.Store.{update};
 ghost use Rattle.place.specs.Edit.{lead, leafBytes, removed};
 ghost use Rattle.place.specs.Heads.{recordHead, shifted};
 ghost use Rattle.place.specs.Whole.{relengthAll};
+ghost use Rattle.stepper.specs.Perform.{stoppedAt, unrolledAt};
 use buffer::get_u16;
 use buffer::move_down;
+use buffer::move_up;
 use buffer::put_u16;
 use buffer::put_u32;
 use buffer::zero;
@@ -85,4 +87,26 @@ fn set_value(store: &mut [u32], variable: u32, value: u32)
 {
     let i = (variable - 1) as usize;
     store[i] = value;
+}
+
+// Rule 8: a loop's record becomes an empty block's, and its other n bytes go.
+fn stop(buf: &mut [u8], at: usize, n: usize, used: usize)
+    requires { ⌜ (at + 4 + n ≤ used) × (used ≤ length (now buf)) ⌝ }
+    ensures { λ _. ⌜ now (buf .exit) ≡ stoppedAt (now (buf .entry)) at n used ⌝ }
+{
+    remove(buf, at + 4, n, used);
+    put_head(buf, at, 1, 4);
+}
+
+// Rule 9: a loop's record of n bytes becomes a block's of n + n bytes. What is behind the loop's first 20 bytes moves up first,
+// and so is the body's second copy and the rest at once; then the loop itself makes room for the block's head.
+fn unroll(buf: &mut [u8], at: usize, n: usize, used: usize, x: u32, v: u32)
+    requires { ⌜ (20 ≤ n) × (at + n ≤ used) × (used + n ≤ length (now buf)) × (0 < v) × (n ≤ 16384) ⌝ }
+    ensures { λ _. ⌜ now (buf .exit) ≡ unrolledAt (now (buf .entry)) at n used x v ⌝ }
+{
+    move_up(buf, at + 20, at + n + 20, used - (at + 20));
+    move_up(buf, at, at + 4, n);
+    put_head(buf, at, 1, n + n);
+    put_literal(buf, at + 12, v - 1);
+    put_assignment(buf, at + 4 + n, x, v);
 }
