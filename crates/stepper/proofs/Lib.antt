@@ -1,2 +1,5 @@
 pub mod RunStepperLaws
 pub mod EditedLaws
+pub mod PlanLaws
+pub mod StateLaws
+pub mod PerformLaws

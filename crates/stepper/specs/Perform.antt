@@ -1,5 +1,5 @@
 -- A plan made: what it does to the bytes and to the store, and what the next state is.
-use Prim.Native.Nat.{ℕ, _+_, _-_, _<_, _≤_}
+use Prim.Native.Nat.{ℕ, _*_, _+_, _-_, _<_, _≤_}
 use mathlib.Core.Path.{_≡_}
 use mathlib.Core.List.{List}
 use lib.ListN.{length}
@@ -75,6 +75,14 @@ ValueFits p Literal k = Unit {0}
 ValueFits p Remove k = Unit {0}
 ValueFits p Stop k = Unit {0}
 ValueFits p Unroll k = Unit {0}
+
+-- All that the code asks of the numbers of a plan, in a buffer of `room` bytes and a store of k values.
+pub record PlanFits (p : Plan) (used room k : ℕ) : Type 0 where
+  pub edit : EditFits p (p .rule) used room
+  pub value : ValueFits p (p .rule) k
+  pub levels : 8 + 4 * (p .levels + 1) ≤ room
+  pub up : p .up ≤ 16384
+  pub down : p .down ≤ used + p .up
 
 -- THE STEP
 
