@@ -10,7 +10,11 @@ ghost use Rattle.rules.specs.Store.{update};
 ghost use Rattle.place.specs.Edit.{lead, leafBytes, removed};
 ghost use Rattle.place.specs.Heads.{recordHead, shifted};
 ghost use Rattle.place.specs.Whole.{relengthAll};
-ghost use Rattle.stepper.specs.Perform.{stoppedAt, unrolledAt};
+ghost use Rattle.stepper.specs.Perform.{EditFits, Moves, Performed, ValueFits, edited, stoppedAt, unrolledAt, valued};
+ghost use Rattle.stepper.specs.Plan.{planOf};
+ghost use Rattle.stepper.specs.State.{Stands};
+use crate::Plan;
+use crate::Rule;
 use buffer::get_u16;
 use buffer::move_down;
 use buffer::move_up;
@@ -109,4 +113,38 @@ fn unroll(buf: &mut [u8], at: usize, n: usize, used: usize, x: u32, v: u32)
     put_head(buf, at, 1, n + n);
     put_literal(buf, at + 12, v - 1);
     put_assignment(buf, at + 4 + n, x, v);
+}
+
+// The command of a plan changed, and what is behind it moved.
+fn edit(buf: &mut [u8], used: usize, p: Plan)
+    requires { ⌜ EditFits p (p .rule) used (length (now buf)) × (used ≤ length (now buf)) × (length (now buf) ≤ 16384) ⌝ }
+    ensures { λ _. ⌜ now (buf .exit) ≡ edited p (p .rule) used (now (buf .entry)) ⌝ }
+{
+    let rule = p.rule;
+    match rule {
+        Rule::Finished => {}
+        Rule::Over => {}
+        Rule::Store => remove(buf, p.at, 16, used),
+        Rule::Literal => put_literal(buf, p.at + 8, p.value),
+        Rule::Remove => remove(buf, p.at, 4, used),
+        Rule::Stop => stop(buf, p.at, p.down, used),
+        Rule::Unroll => unroll(buf, p.at, p.up, used, p.variable, p.value),
+    }
+}
+
+// The store's part of a plan.
+fn keep_value(store: &mut [u32], p: Plan)
+    requires { ⌜ ValueFits p (p .rule) (length (now store)) ⌝ }
+    ensures { λ _. ⌜ now (store .exit) ≡ valued p (p .rule) (now (store .entry)) ⌝ }
+{
+    let rule = p.rule;
+    match rule {
+        Rule::Finished => {}
+        Rule::Over => {}
+        Rule::Store => set_value(store, p.variable, p.value),
+        Rule::Literal => {}
+        Rule::Remove => {}
+        Rule::Stop => {}
+        Rule::Unroll => {}
+    }
 }
