@@ -206,9 +206,17 @@ module _ {k : ℕ} {P : Block} {s : List ℕ} {l : List ℕ} {used : ℕ} (h : S
   planned = planned-block s (length (path P)) place P
 
   -- the edit, the store and the lengths of the plan are the step
-  pub performs : (q : Plan) → q ≡ planOf P s → Moves (q .rule) → used + q .up ≤ length l + q .down
+  performs : (q : Plan) → q ≡ planOf P s → Moves (q .rule) → used + q .up ≤ length l + q .down
       → Performed k (at P s) (length l) (relengthAll (shifted (q .up) (q .down)) (q .levels + 1) (edited q (q .rule) used l)) (valued q (q .rule) s) (used + q .up - q .down)
   performs q e moves fits = performs-by (spot P) q (subst (λ (y : Plan). Planned s (length (path P)) place (spot P) y) (sym e) planned) refl moves fits
+
+  -- as the code makes it, call by call
+  pub performs-is : (q : Plan) → q ≡ planOf P s → Moves (q .rule) → used + q .up ≤ length l + q .down → (m₁ m₂ t : List ℕ) → m₁ ≡ edited q (q .rule) used l
+      → m₂ ≡ relengthAll (shifted (q .up) (q .down)) (q .levels + 1) m₁ → t ≡ valued q (q .rule) s → Performed k (at P s) (length l) m₂ t (used + q .up - q .down)
+  performs-is q e moves fits m₁ m₂ t e₁ e₂ e₃ =
+      let f : List ℕ → List ℕ = relengthAll (shifted (q .up) (q .down)) (q .levels + 1) in
+      subst (λ (y : List ℕ). Performed k (at P s) (length l) m₂ y (used + q .up - q .down)) (sym e₃)
+      (subst (λ (y : List ℕ). Performed k (at P s) (length l) y (valued q (q .rule) s) (used + q .up - q .down)) (sym (e₂ ∙ ap f e₁)) (performs q e moves fits))
 
   -- WHAT THE CODE ASKS of the numbers
 

@@ -1,12 +1,14 @@
 // The plan of the next step made in place. Only the bytes of the command and those behind it move; the lengths around it are
 // brought up to date by one loop.
 ghost use mathlib.Core.Path.{_≡_};
-ghost use Prim.Native.Nat.{_+_, _*_, _-_, _<_, _≤_};
+ghost use Prim.Native.Nat.{ℕ, _+_, _*_, _-_, _<_, _≤_};
 ghost use lib.ListN.{length};
 ghost use Rattle.buffer.specs.LittleEndian.{le, val};
 ghost use Rattle.buffer.specs.Slice.{part, put};
+ghost use Rattle.rules.specs.Rules.{at};
 ghost use Rattle.rules.specs.Scope.{Within};
 ghost use Rattle.rules.specs.Store.{update};
+ghost use Rattle.rules.specs.Syntax.{Block};
 ghost use Rattle.place.specs.Edit.{lead, leafBytes, removed};
 ghost use Rattle.place.specs.Heads.{recordHead, shifted};
 ghost use Rattle.place.specs.Whole.{relengthAll};
@@ -147,4 +149,16 @@ fn keep_value(store: &mut [u32], p: Plan)
         Rule::Stop => {}
         Rule::Unroll => {}
     }
+}
+
+// Makes the step of a plan that the look gave for the program and the store as they are; the result is the record's new length.
+// The store changes last: nothing before reads it, and the plan has the value.
+pub fn perform(buf: &mut [u8], used: usize, store: &mut [u32], p: Plan) -> usize
+    requires { ⌜ ((k : ℕ) × ((P : Block) × (Stands k (at P (now store)) (now buf) used × ((p ≡ planOf P (now store)) × (Moves (p .rule) × (used + p .up ≤ length (now buf) + p .down)))))) ⌝ }
+    ensures { λ r. ⌜ ((k : ℕ) (P : Block) → Stands k (at P (now (store .entry))) (now (buf .entry)) used → p ≡ planOf P (now (store .entry)) → Performed k (at P (now (store .entry))) (length (now (buf .entry))) (now (buf .exit)) (now (store .exit)) r) ⌝ }
+{
+    edit(buf, used, p);
+    relength(buf, p.levels + 1, p.up, p.down);
+    keep_value(store, p);
+    used + p.up - p.down
 }
