@@ -11,6 +11,7 @@ use Rattle.rules.specs.Syntax.{Config, next}
 use Rattle.place.specs.Edit.{lead, leafBytes, removed}
 use Rattle.place.specs.Heads.{recordHead}
 use Rattle.record.specs.Answers.{padded}
+use Rattle.record.specs.Header.{contentsAt}
 use Rattle.stepper.specs.RunStepper.{configBytes}
 use Rattle.stepper.specs.State.{Stands}
 use Rattle.stepper.specs.declared.Plan.{Plan}
@@ -80,7 +81,7 @@ ValueFits p Unroll k = Unit {0}
 pub record PlanFits (p : Plan) (used room k : ℕ) : Type 0 where
   pub edit : EditFits p (p .rule) used room
   pub value : ValueFits p (p .rule) k
-  pub levels : 8 + 4 * (p .levels + 1) ≤ room
+  pub levels : contentsAt + 4 * (p .levels + 1) ≤ room
   pub up : p .up ≤ 16384
   pub down : p .down ≤ used + p .up
 

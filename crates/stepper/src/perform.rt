@@ -9,6 +9,7 @@ ghost use Rattle.rules.specs.Rules.{at};
 ghost use Rattle.rules.specs.Scope.{Within};
 ghost use Rattle.rules.specs.Store.{update};
 ghost use Rattle.rules.specs.Syntax.{Block};
+ghost use Rattle.record.specs.Header.{contentsAt};
 ghost use Rattle.place.specs.Edit.{lead, leafBytes, removed};
 ghost use Rattle.place.specs.Heads.{recordHead, shifted};
 ghost use Rattle.place.specs.Whole.{relengthAll};
@@ -75,7 +76,7 @@ fn adjust(buf: &mut [u8], at: usize, up: usize, down: usize)
 
 // The header's length, and those of so many levels of the contents.
 fn relength(buf: &mut [u8], count: usize, up: usize, down: usize)
-    requires { ⌜ (8 + 4 * count ≤ length (now buf)) × (up ≤ 16384) ⌝ }
+    requires { ⌜ (contentsAt + 4 * count ≤ length (now buf)) × (up ≤ 16384) ⌝ }
     ensures { λ _. ⌜ now (buf .exit) ≡ relengthAll (shifted up down) count (now (buf .entry)) ⌝ }
 {
     adjust(buf, 0, up, down);
@@ -104,16 +105,17 @@ fn stop(buf: &mut [u8], at: usize, n: usize, used: usize)
     put_head(buf, at, 1, 4);
 }
 
-// Rule 9: a loop's record of n bytes becomes a block's of n + n bytes. What is behind the loop's first 20 bytes moves up first,
-// and so is the body's second copy and the rest at once; then the loop itself makes room for the block's head.
+// Rule 9: a loop's record of n bytes becomes a block's of n + n bytes. The body and what is behind it move up in one piece, so
+// that the body stands twice; then the loop moves up by 4 bytes and makes room for the block's head.
 fn unroll(buf: &mut [u8], at: usize, n: usize, used: usize, x: u32, v: u32)
     requires { ⌜ (20 ≤ n) × (at + n ≤ used) × (used + n ≤ length (now buf)) × (0 < v) × (n ≤ 16384) ⌝ }
     ensures { λ _. ⌜ now (buf .exit) ≡ unrolledAt (now (buf .entry)) at n used x v ⌝ }
 {
+    let q = v - 1;
     move_up(buf, at + 20, at + n + 20, used - (at + 20));
     move_up(buf, at, at + 4, n);
     put_head(buf, at, 1, n + n);
-    put_literal(buf, at + 12, v - 1);
+    put_literal(buf, at + 12, q);
     put_assignment(buf, at + 4 + n, x, v);
 }
 

@@ -1,28 +1,21 @@
+-- Two neighbouring stores are one head.
 use borrow.Author.Needs.{needs}
 use Rattle.stepper.proofs.perform.put_head.Statement.{statement}
 use Rattle.stepper.proofs.perform.put_head.Tie as tie
-use Rattle.stepper.proofs.perform.put_head.Reads as reads
-use Rattle.stepper.proofs.perform.put_head.Lts as lts
-use Rattle.buffer.proofs.put_u16.Reads as put-u16-reads
 use Rattle.place.proofs.HeadsLaws.{put-head}
 
--- src/perform.rt:27:5
 put-u16-requires : tie.Need-put-u16-requires
 put-u16-requires c κs = search needs
 
--- src/perform.rt:28:18
 add-put-u16 : tie.Need-add-put-u16
 add-put-u16 c = search needs
 
--- src/perform.rt:28:5
 put-u16-requires-2 : tie.Need-put-u16-requires-2
 put-u16-requires-2 c κs = search needs
 
--- src/perform.rt:23:1
 same-length : tie.Need-same-length
 same-length c = search needs
 
--- src/perform.rt:23:1
 returns : tie.Need-returns
 returns c =
     cc (put-head (c .before .before .before .before .before .before .before .before .before .args .buf .now) (c .before .before .before .before .before .before .before .before .before .args .at) (c .before .before .before .before .before .before .before .before .before .args .kind) (c .before .before .before .before .before .before .before .before .before .args .n) (c .before .before .before .before .before .before .before .before .before .pre))
