@@ -6,7 +6,7 @@ use mathlib.Core.List.{List, [], _∷_, _++_, append-assoc}
 use native.Mathlib.Nat.{add-assoc, add-zero}
 use native.Mathlib.Numerals.{add-one}
 use native.Mathlib.Omega.{arith}
-use lib.ListN.{length, take, drop, getD, set, length-append, length-take, length-drop, length-replicate, replicate-append-replicate, take-append-drop, List·getD-append}
+use lib.ListN.{length, take, drop, getD, set, length-append, length-take, length-drop, length-replicate, replicate, replicate-append-replicate, take-append-drop, List·getD-append}
 use lib.Seq.{take-at, drop-at, drop-append-add, drop-drop, length-take-le, take-add, getD-drop, getD-take, getD-append-add, sets, sets-eq, drop-cons, take-suc}
 use Rattle.buffer.specs.LittleEndian.{le, val, Bytes}
 use Rattle.buffer.specs.Slice.{put, part, zeros}
@@ -40,6 +40,12 @@ length-zeros n = length-replicate n 0
 pub zeros-add : (n m : ℕ) → zeros n ++ zeros m ≡ zeros (n + m)
 unfolding zeros
 zeros-add n m = replicate-append-replicate n m 0
+
+pub drop-zeros : (m n : ℕ) → drop m (zeros n) ≡ zeros (n - m)
+unfolding zeros
+drop-zeros zero n = let e : n ≡ n - 0 = omega arith in ap (λ (j : ℕ). replicate j 0) e
+drop-zeros (suc m) zero = let e : _≡_ {A = ℕ} 0 (0 - suc m) = omega arith in ap (λ (j : ℕ). replicate j 0) e
+drop-zeros (suc m) (suc n) = let e : n - m ≡ suc n - suc m = omega arith in drop-zeros m n ∙ ap (λ (j : ℕ). replicate j 0) e
 
 pub bytes-zeros : (n : ℕ) → Bytes (zeros n)
 unfolding zeros
@@ -88,6 +94,17 @@ put-put-front l vs ws at next e h =
     let hm : length m ≡ length vs = simp (length-take, length-drop) (omega arith) in
     let f : put l next ws ≡ take at l ++ (m ++ q) = ap (λ (k : ℕ). take k l ++ q) (sym e) ∙ rw (take-add at (length vs) l) (append-assoc (take at l) m q) in
     put-re (put l next ws) (take at l) m q vs at f hp hm ∙ rw (← e) (simp (append-assoc, length-append, add-assoc))
+
+-- What is behind the bytes written is as it was.
+pub drop-put : (l vs : List ℕ) (at n : ℕ) → at + length vs ≤ n → at ≤ length l → drop n (put l at vs) ≡ drop n l
+unfolding put
+drop-put l vs at n h b =
+    let p : List ℕ = take at l ++ vs in
+    let m : ℕ = at + length vs in
+    let hp : length p ≡ m = rw (length-append (take at l) vs, length-take-le at l b) in
+    let e : length p + (n - m) ≡ n = omega arith in
+    let f : m + (n - m) ≡ n = omega arith in
+    rw (← append-assoc (take at l) vs (drop m l)) (ap (λ (j : ℕ). drop j (p ++ drop m l)) (sym e) ∙ drop-append-add p (drop m l) (n - m) ∙ drop-drop (n - m) m l ∙ ap (λ (j : ℕ). drop j l) f)
 
 -- Stores of single bytes in a row are one put.
 pub put-sets : (l : List ℕ) (at : ℕ) (vs : List ℕ) → at + length vs ≤ length l → sets l at vs ≡ put l at vs

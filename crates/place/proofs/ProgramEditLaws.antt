@@ -1,6 +1,6 @@
 -- The first command of a block changed in place: the bytes before and after.
 use Prim.Native.Nat.{_+_, _-_, _≤_, suc, ℕ}
-use mathlib.Core.Path.{ap, sym, _∙_, _≡_}
+use mathlib.Core.Path.{ap, refl, sym, _∙_, _≡_}
 use mathlib.Core.List.{_++_, List, append-assoc}
 use lib.ListN.{drop, length, length-append, take}
 use lib.Seq.{length-take-le}
@@ -82,6 +82,12 @@ assign-replaced l pre post p q used x e e′ r h fits hp hq =
     put-take used l (pre ++ (recordHead 2 16 ++ le 4 x)) (encodeExpr e) (encodeBlock r ++ post) v q (h ∙ rw (encodeBlock-assign x e r) (simp append-assoc)) fits
     (simp (length-append, length-recordHead, length-le) (omega arith)) (length-encodeLeaf exprKind exprNumber exprFrom e ∙ sym (length-leafBytes (exprKind e′) (exprNumber e′)))
     ∙ rw (encodeBlock-assign x e′ r, encodeExpr-leaf e′) (simp append-assoc)
+
+-- by a literal, as the code writes it
+pub assign-literal : (l pre post : List ℕ) (p used x v : ℕ) (e : Expr) (r : Block) → take used l ≡ pre ++ (encodeBlock (assign x e r) ++ post) → used ≤ length l
+    → length pre ≡ p → take used (put l (p + 8) (leafBytes 16 v)) ≡ pre ++ (encodeBlock (assign x (lit v) r) ++ post)
+unfolding exprKind exprNumber
+assign-literal l pre post p used x v e r h fits hp = assign-replaced l pre post p (p + 8) used x e (lit v) r h fits hp refl
 
 -- A LOOP UNROLLED
 

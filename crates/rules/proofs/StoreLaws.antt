@@ -5,9 +5,9 @@ use mathlib.Core.Logic.{_↔_}
 use mathlib.Core.Bool.{Bool, true}
 use mathlib.Core.List.{List}
 use borrow.Author.Tests.{lt-ltb, ltb-true}
-use lib.ListN.{getD}
+use lib.ListN.{getD, set}
 use native.Mathlib.Omega.{arith}
-use Rattle.rules.specs.Store.{Limit, fitsWord, lookup, minusOne, noLimit, wordLimit}
+use Rattle.rules.specs.Store.{Limit, fitsWord, lookup, minusOne, noLimit, update, wordLimit}
 
 -- THE LIMITS: 01's, and none
 
@@ -56,3 +56,9 @@ pub lookup-index : (s : List ℕ) (x : ℕ) → 1 ≤ x → getD s (x - 1) 0 ≡
 unfolding lookup
 lookup-index s zero h = absurd (omega arith)
 lookup-index s (suc i) h = ap (λ j. getD s j 0) {x = suc i - 1} {y = i} (omega arith)
+
+-- A STORE CHANGED
+
+pub update-set : (s : List ℕ) (x i v : ℕ) → x ≡ suc i → update s x v ≡ set s i v
+unfolding update
+update-set s x i v e = rw e

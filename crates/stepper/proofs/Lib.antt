@@ -1,2 +1,7 @@
 pub mod RunStepperLaws
+pub mod LookLaws
+pub mod EditedLaws
 pub mod PlanLaws
+pub mod StateLaws
+pub mod PerformLaws
+pub mod PlanMeaningLaws

@@ -1,3 +1,5 @@
 pub mod RunStepper
 pub mod StepperRan
 pub mod Plan
+pub mod State
+pub mod Perform

@@ -1,6 +1,7 @@
 // The stepper: one step of a configuration in place, looked up before it is made (01 "Stepper").
 
 pub mod look;
+pub mod perform;
 
 // What the next step does. Finished and Over make none; the others are the edits that the rules come to on bytes.
 pub enum Rule {

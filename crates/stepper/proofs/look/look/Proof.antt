@@ -15,7 +15,7 @@ use Rattle.place.specs.ProgramView.{BlockAt}
 use Rattle.place.proofs.ProgramViewLaws.{as-assign, as-loop, as-nest, block-index, block-room, block-same, command-kind}
 use Rattle.place.proofs.ProgramBytesLaws.{blockSize-some}
 use Rattle.rules.specs.Scope.{BoundWithin, ExprWithin}
-use Rattle.stepper.proofs.PlanLaws.{First, first-of, none-of, plan-empty, plan-assign, plan-loop, plan-remove, assign-within, loop-within}
+use Rattle.stepper.proofs.LookLaws.{First, first-of, none-of, plan-empty, plan-assign, plan-loop, plan-remove, assign-within, loop-within}
 
 -- src/look.rt:97:9
 returns : tie.Need-returns

@@ -13,7 +13,7 @@ use Rattle.stepper.specs.declared.Rule.the-variants.{Stop, Unroll}
 use Rattle.rules.specs.Step.{boundValue}
 use Rattle.record.specs.Program.{blockSize}
 use Rattle.stepper.specs.Plan.{plan}
-use Rattle.stepper.proofs.PlanLaws.{loop-read, plan-stop, plan-unroll}
+use Rattle.stepper.proofs.LookLaws.{loop-read, plan-stop, plan-unroll}
 
 -- src/look.rt:80:41
 add-get-u32 : tie.Need-add-get-u32
