@@ -29,7 +29,7 @@ use Rattle.place.proofs.PathLaws.{blockSize-plug, plug-some, plug-spot, step-sp
 use Rattle.place.proofs.ProgramBytesLaws.{blockSize-assign, blockSize-empty, blockSize-loop, blockSize-nest}
 use Rattle.place.proofs.ProgramEditLaws.{assign-gone, assign-literal, loop-emptied, loop-unrolled, nest-gone}
 use Rattle.place.proofs.WholeLaws.{encodeProgram-relength, length-programFront}
-use Rattle.stepper.specs.Perform.{Moves, Performed, PlanFits, edited, spread, stoppedAt, unrolledAt, valued}
+use Rattle.stepper.specs.Perform.{Moves, Performed, PlanFits, Ready, edited, spread, stoppedAt, unrolledAt, valued}
 use Rattle.stepper.specs.Plan.{planOf}
 use Rattle.stepper.specs.RunStepper.{configBytes}
 use Rattle.stepper.specs.State.{Stands}
@@ -252,5 +252,8 @@ module _ {k : ℕ} {P : Block} {s : List ℕ} {l : List ℕ} {used : ℕ} (h : S
       let small : length l ≤ 16384 = h .short in
       record { edit = (omega arith, omega arith, omega arith, omega arith); value = tt; levels = omega (arith, fits-buf); up = omega arith; down = omega arith }
 
-  pub plan-fits : (q : Plan) → q ≡ planOf P s → used + q .up ≤ length l + q .down → PlanFits q used (length l) (length s)
+  plan-fits : (q : Plan) → q ≡ planOf P s → used + q .up ≤ length l + q .down → PlanFits q used (length l) (length s)
   plan-fits q e fits = asks-by (spot P) q (subst (λ (y : Plan). Planned s (length (path P)) place (spot P) y) (sym e) planned) refl fits
+
+pub ready-fits : {k : ℕ} {P : Block} {s : List ℕ} {l : List ℕ} {used : ℕ} (q : Plan) → Ready k P l used s q → PlanFits q used (length l) (length s)
+ready-fits q h = plan-fits (h .stands) q (h .plans) (h .fits)

@@ -4,14 +4,16 @@ use mathlib.Core.Path.{_≡_}
 use mathlib.Core.List.{List}
 use lib.ListN.{length}
 use Rattle.buffer.specs.Slice.{part, put}
+use Rattle.rules.specs.Rules.{at}
 use Rattle.rules.specs.Scope.{Within}
 use Rattle.rules.specs.Step.{step}
 use Rattle.rules.specs.Store.{fitsWord, update}
-use Rattle.rules.specs.Syntax.{Config, next}
+use Rattle.rules.specs.Syntax.{Block, Config, next}
 use Rattle.place.specs.Edit.{lead, leafBytes, removed}
 use Rattle.place.specs.Heads.{recordHead}
 use Rattle.record.specs.Answers.{padded}
 use Rattle.record.specs.Header.{contentsAt}
+use Rattle.stepper.specs.Plan.{planOf}
 use Rattle.stepper.specs.RunStepper.{configBytes}
 use Rattle.stepper.specs.State.{Stands}
 use Rattle.stepper.specs.declared.Plan.{Plan}
@@ -96,6 +98,13 @@ Moves Literal = Unit {0}
 Moves Remove = Unit {0}
 Moves Stop = Unit {0}
 Moves Unroll = Unit {0}
+
+-- What stands before a step: the program P with the store, its plan, which makes a step, and room for the next state.
+pub record Ready (k : ℕ) (P : Block) (buf : List ℕ) (used : ℕ) (store : List ℕ) (p : Plan) : Type 0 where
+  pub stands : Stands k (at P store) buf used
+  pub plans : p ≡ planOf P store
+  pub moves : Moves (p .rule)
+  pub fits : used + p .up ≤ length buf + p .down
 
 -- From the configuration c in a buffer of `room` bytes: the rules' next configuration stands in the buffer, with zeros behind
 -- it, and in the store, and `used` is its length.

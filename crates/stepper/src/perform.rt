@@ -13,7 +13,7 @@ ghost use Rattle.record.specs.Header.{contentsAt};
 ghost use Rattle.place.specs.Edit.{lead, leafBytes, removed};
 ghost use Rattle.place.specs.Heads.{recordHead, shifted};
 ghost use Rattle.place.specs.Whole.{relengthAll};
-ghost use Rattle.stepper.specs.Perform.{EditFits, Moves, Performed, ValueFits, edited, stoppedAt, unrolledAt, valued};
+ghost use Rattle.stepper.specs.Perform.{EditFits, Performed, Ready, ValueFits, edited, stoppedAt, unrolledAt, valued};
 ghost use Rattle.stepper.specs.Plan.{planOf};
 ghost use Rattle.stepper.specs.State.{Stands};
 use crate::Plan;
@@ -156,7 +156,7 @@ fn keep_value(store: &mut [u32], p: Plan)
 // Makes the step of a plan that the look gave for the program and the store as they are; the result is the record's new length.
 // The store changes last: nothing before reads it, and the plan has the value.
 pub fn perform(buf: &mut [u8], used: usize, store: &mut [u32], p: Plan) -> usize
-    requires { ⌜ ((k : ℕ) × ((P : Block) × (Stands k (at P (now store)) (now buf) used × ((p ≡ planOf P (now store)) × (Moves (p .rule) × (used + p .up ≤ length (now buf) + p .down)))))) ⌝ }
+    requires { ⌜ ((k : ℕ) × ((P : Block) × Ready k P (now buf) used (now store) p)) ⌝ }
     ensures { λ r. ⌜ ((k : ℕ) (P : Block) → Stands k (at P (now (store .entry))) (now (buf .entry)) used → p ≡ planOf P (now (store .entry)) → Performed k (at P (now (store .entry))) (length (now (buf .entry))) (now (buf .exit)) (now (store .exit)) r) ⌝ }
 {
     edit(buf, used, p);
