@@ -1,0 +1,1 @@
+// No code yet: the crate is its definitions (specs) and theorems (proofs).
