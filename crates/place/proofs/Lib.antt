@@ -5,3 +5,6 @@ pub mod ProgramBytesLaws
 pub mod ProgramViewLaws
 pub mod TermBytesLaws
 pub mod TermViewLaws
+pub mod HeldTermLaws
+pub mod ProgramRecordLaws
+pub mod SourceKindLaws
