@@ -13,14 +13,18 @@ use Rattle.buffer.specs.Slice.{part}
 use Rattle.place.specs.TermView.{AtomsAt, LetOfView, TermAt, TermView, isLetAllAt, isLetOneAt, isRecAt, isTupleAt}
 use Rattle.record.specs.Rows.{isNone}
 use Rattle.record.specs.Term.{atomKind}
+use Rattle.record.specs.Holding.{TermIn}
+use Rattle.rules.specs.FreeVariables.{allVars}
 use Rattle.rules.specs.ReadBack.{Source, aBlock, aLoop, blockOfSource, boundOf, exprOf, nothing, readBack, sameAtom, sameAtoms, source, sourceLetAll, sourceLetOne, sourceRec}
 use Rattle.rules.specs.Syntax.{Atom, Block, Bound, Expr, Simple, Term, dec, empty, inc, letAll, letOne, lit, num, plain, predOf, rec, ref, succOf, tuple, var}
 use Rattle.rules.specs.Translation.{all, refs}
+use Rattle.place.proofs.HeldTermLaws.{held-end, held-term}
 use Rattle.place.proofs.TermBytesLaws.{atomKind-range, kind-num, kind-ref}
 use Rattle.place.proofs.TermViewLaws.{as-letAll, as-letAtom, as-letPred, as-letSucc, as-rec, as-tuple, simple-kind, term-view}
 use Rattle.record.proofs.RowLaws.{isNone-none, isNone-some}
 use Rattle.term.specs.Recognition.{accepts, hasExpr, isLetAll, isRef, legal, recognised}
-use Rattle.term.specs.Scan.{inner}
+use Rattle.term.specs.Scan.{TermsAt, inner, ownSize}
+use Rattle.term.proofs.ScanLaws.{terms-end, terms-first, terms-one}
 
 and-assoc : (a b c : Bool) → ((a && b) && c) ≡ (a && (b && c))
 and-assoc true b c = refl
@@ -105,13 +109,14 @@ recognised-one k t = and-true (accepts false (source k t)) ∙ accepts-block (so
 
 -- WHAT IS LEGAL, by the kinds read
 
-isRef-yes : (a : Atom) → atomKind a ≡ 33 → true ≡ isRef a
+-- the kind says whether the atom is a variable
+isRef-kind : (a : Atom) → eqb (atomKind a) 33 ≡ isRef a
 unfolding isRef
-isRef-yes a e = sym (ap isRef (kind-ref a e))
-
-isRef-no : (a : Atom) → (atomKind a ≡ 33 → ⊥) → false ≡ isRef a
-unfolding isRef
-isRef-no a n = sym (ap isRef (kind-num a (omega (arith, atomKind-range a))))
+isRef-kind a = go (eqb (atomKind a) 33) refl
+  where
+    go : (b : Bool) → eqb (atomKind a) 33 ≡ b → b ≡ isRef a
+    go true e = sym (ap isRef (kind-ref a (eqb-true (atomKind a) 33 e)))
+    go false e = sym (ap isRef (kind-num a (omega (arith, atomKind-range a, eqb-false (atomKind a) 33 e))))
 
 module _ {l : List ℕ} {p k : ℕ} {t : Term} (h : TermAt l p k t) (first : Bool) where
   -- b says of every tuple of k atoms at index q whether it is all
@@ -140,17 +145,12 @@ module _ {l : List ℕ} {p k : ℕ} {t : Term} (h : TermAt l p k t) (first : Boo
       pub legal-room : p + 16 ≤ length l
       legal-room = of-either (p + 16 ≤ length l) (λ v. omega (arith, v .room, v .size)) (λ v. omega (arith, v .room, v .size)) q
 
-      legal-of : (b : Bool) → ((a : Atom) → val (part l (p + 14) 2) ≡ atomKind a → b ≡ isRef a) → b ≡ legal k first t
+      pub legal-of : eqb (val (part l (p + 14) 2)) 33 ≡ legal k first t
       unfolding legal hasExpr
-      legal-of b f =
-          of-either (b ≡ legal k first t) (λ v. f (v .atom) (v .kind-read) ∙ sym (ap (legal k first) (v .is)))
-          (λ v. f (v .atom) (v .kind-read) ∙ sym (ap (legal k first) (v .is))) q
-
-      pub legal-ref : val (part l (p + 14) 2) ≡ 33 → true ≡ legal k first t
-      legal-ref f = legal-of true (λ a r. isRef-yes a (sym r ∙ f))
-
-      pub legal-num : (val (part l (p + 14) 2) ≡ 33 → ⊥) → false ≡ legal k first t
-      legal-num f = legal-of false (λ a r. isRef-no a (λ g. f (r ∙ g)))
+      legal-of =
+          let of : (a : Atom) → val (part l (p + 14) 2) ≡ atomKind a → eqb (val (part l (p + 14) 2)) 33 ≡ isRef a = λ a r. ap (λ (n : ℕ). eqb n 33) r ∙ isRef-kind a in
+          of-either (eqb (val (part l (p + 14) 2)) 33 ≡ legal k first t) (λ v. of (v .atom) (v .kind-read) ∙ sym (ap (legal k first) (v .is)))
+          (λ v. of (v .atom) (v .kind-read) ∙ sym (ap (legal k first) (v .is))) q
 
   pub legal-letAll : val (part l (p + 2) 2) ≡ 38 → true ≡ legal k first t
   unfolding legal
@@ -166,17 +166,52 @@ module _ {l : List ℕ} {p k : ℕ} {t : Term} (h : TermAt l p k t) (first : Boo
   unfolding legal
   legal-alone e f = let v = as-rec h e in sym (ap (legal k first) (v .is) ∙ ap (λ (c : Bool). c && sameAtoms (v .start) (all k)) f)
 
-  -- whether it is a let-all
-  pub letAll-yes : val (part l (p + 2) 2) ≡ 38 → true ≡ isLetAll t
-  unfolding isLetAll
-  letAll-yes e = sym (ap isLetAll (as-letAll h e .is))
+-- the kind says whether the term is a let-all
+pub isLetAll-kind : {l : List ℕ} {p k : ℕ} {t : Term} → TermAt l p k t → eqb (val (part l (p + 2) 2)) 38 ≡ isLetAll t
+unfolding isLetAll
+isLetAll-kind {l} {p} {k} {t} h = go (val (part l (p + 2) 2)) (term-view h)
+  where
+    go : (n : ℕ) → TermView l p k t n → eqb n 38 ≡ isLetAll t
+    go _ (isTupleAt v) = sym (ap isLetAll (v .is))
+    go _ (isLetOneAt v) = sym (ap isLetAll (v .is))
+    go _ (isLetAllAt v) = sym (ap isLetAll (v .is))
+    go _ (isRecAt v) = sym (ap isLetAll (v .is))
 
-  pub letAll-no : (val (part l (p + 2) 2) ≡ 38 → ⊥) → false ≡ isLetAll t
-  unfolding isLetAll
-  letAll-no n = go (val (part l (p + 2) 2)) (term-view h) n
-    where
-      go : (m : ℕ) → TermView l p k t m → (m ≡ 38 → ⊥) → false ≡ isLetAll t
-      go _ (isTupleAt v) q = sym (ap isLetAll (v .is))
-      go _ (isLetOneAt v) q = sym (ap isLetAll (v .is))
-      go _ (isLetAllAt v) q = absurd (q refl)
-      go _ (isRecAt v) q = sym (ap isLetAll (v .is))
+-- THE LOOP
+
+-- When the loop comes to index `at`, whether t is a translation is the same question of the terms that are left.
+pub record ToRecognise (l : List ℕ) (k used : ℕ) (first : Bool) (at : ℕ) (t : Term) : Type 0 where
+  pub terms : List Term
+  pub row : TermsAt l k used at terms
+  pub same : recognised k first terms ≡ not (isNone (readBack k t))
+
+pub recognise-start : {k : ℕ} {t : Term} {l : List ℕ} {used : ℕ} → TermIn allVars k t l used → length l ≤ 16384 → ToRecognise l k used false 8 t
+recognise-start {k} {t} h b = record { terms = t ∷ []; row = terms-one (held-term h b) (held-end h); same = recognised-one k t }
+
+module _ {l : List ℕ} {k used : ℕ} {first : Bool} {at : ℕ} {t : Term} (s : ToRecognise l k used first at t) where
+  pub recognise-end : used ≤ at → true ≡ not (isNone (readBack k t))
+  recognise-end b = sym (recognised-end k first (s .terms) (terms-end (s .row) b)) ∙ s .same
+
+  module _ (b : at < used) where
+    -- the term that the loop stands at
+    pub recognise-here : (u : Term) × TermAt l at k u
+    recognise-here = let f = terms-first (s .row) b in (f .term, f .here)
+
+    recognise-step : (u : Term) (ts : List Term) → s .terms ≡ u ∷ ts → (legal k first u && recognised k (isLetAll u) (inner u ++ ts)) ≡ not (isNone (readBack k t))
+    recognise-step u ts e = sym (recognised-step k first u ts) ∙ ap (recognised k first) (sym e) ∙ s .same
+
+    pub recognise-no : ((u : Term) → TermAt l at k u → false ≡ legal k first u) → false ≡ not (isNone (readBack k t))
+    recognise-no no-term =
+        let f = terms-first (s .row) b in
+        ap (λ (c : Bool). c && recognised k (isLetAll (f .term)) (inner (f .term) ++ f .rest)) (no-term (f .term) (f .here)) ∙ recognise-step (f .term) (f .rest) (f .is)
+
+    pub recognise-next : (g : Bool) (n : ℕ) → ((u : Term) → TermAt l at k u → true ≡ legal k first u) → ((u : Term) → TermAt l at k u → g ≡ isLetAll u)
+        → ((u : Term) → TermAt l at k u → n ≡ ownSize u) → ToRecognise l k used g (at + n) t
+    recognise-next g n is-legal is-letAll is-size =
+        let f = terms-first (s .row) b in
+        record {
+          terms = inner (f .term) ++ f .rest;
+          row = rw (is-size (f .term) (f .here)) (f .after);
+          same = rw (is-letAll (f .term) (f .here))
+              (ap (λ (c : Bool). c && recognised k (isLetAll (f .term)) (inner (f .term) ++ f .rest)) (is-legal (f .term) (f .here)) ∙ recognise-step (f .term) (f .rest) (f .is));
+        }

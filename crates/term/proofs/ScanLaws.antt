@@ -64,20 +64,25 @@ terms-first (followed {p} {t} {ts} h r) b = record { term = t; rest = ts; is = r
 pub terms-one : {l : List ℕ} {k to p : ℕ} {t : Term} → TermAt l p k t → p + (4 + termSize t) ≡ to → TermsAt l k to p (t ∷ [])
 terms-one h e = followed h (ended e)
 
+-- a term has at least its length and its kind
+own-some : (t : Term) → 4 ≤ ownSize t
+unfolding ownSize
+own-some (tuple ys) = omega arith
+own-some (letOne x s u) = omega arith
+own-some (letAll s u) = omega arith
+own-some (rec x a ys u) = omega arith
+
+-- a step forward, and not past the end
+pub terms-pass : {l : List ℕ} {k to p : ℕ} {ts : List Term} → TermsAt l k to p ts → p < to → (n : ℕ) → ((t : Term) → TermAt l p k t → n ≡ ownSize t)
+    → (0 < n) × (p + n ≤ to)
+terms-pass h b n e =
+    let f = terms-first h b in
+    let q : n ≡ ownSize (f .term) = e (f .term) (f .here) in
+    omega (arith, own-some (f .term), terms-order (f .after))
+
 -- HOW MANY BYTES A TERM HAS OF ITS OWN
 
 module _ {l : List ℕ} {p k : ℕ} {t : Term} (h : TermAt l p k t) where
-  -- a term has at least its length and its kind
-  pub own-some : 4 ≤ ownSize t
-  unfolding ownSize
-  own-some = go t
-    where
-      go : (u : Term) → 4 ≤ ownSize u
-      go (tuple ys) = omega arith
-      go (letOne x s u) = omega arith
-      go (letAll s u) = omega arith
-      go (rec x a ys u) = omega arith
-
   pub own-tuple : val (part l (p + 2) 2) ≡ 36 → ownSize t ≡ 4 + 8 * k
   unfolding ownSize
   own-tuple e = let v = as-tuple h e in ap ownSize (v .is) ∙ ap (λ (n : ℕ). 4 + 8 * n) (v .count)

@@ -1,1 +1,2 @@
-// No code yet: the crate is its definitions (specs) and theorems (proofs).
+// Calls on terms' records. Only what works on checked input is here yet.
+mod read_back;

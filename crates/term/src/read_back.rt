@@ -1,0 +1,99 @@
+// Read-back on checked input. The terms inside a term stand behind its own bytes, so a loop that steps over own bytes meets
+// every term, at whatever depth, in the order of the bytes and with no stack.
+ghost use mathlib.Core.Path.{_≡_};
+ghost use mathlib.Core.Bool.{not};
+ghost use mathlib.Core.List.{List};
+ghost use Prim.Native.Nat.{ℕ, _+_, _≤_};
+ghost use lib.ListN.{length};
+ghost use Rattle.place.specs.TermView.{AtomsAt, TermAt};
+ghost use Rattle.record.specs.Holding.{TermIn};
+ghost use Rattle.record.specs.Rows.{isNone};
+ghost use Rattle.rules.specs.FreeVariables.{allVars};
+ghost use Rattle.rules.specs.ReadBack.{readBack, sameAtoms};
+ghost use Rattle.rules.specs.Syntax.{Atom, Term};
+ghost use Rattle.rules.specs.Translation.{all};
+ghost use Rattle.term.specs.Recognition.{legal};
+ghost use Rattle.term.specs.Scan.{ownSize};
+
+// Where the contents of a program's and a term's record start.
+const CONTENTS: usize = 8;
+
+// From a term to the next one met.
+fn own_size(src: &[u8], at: usize, k: u32) -> usize
+    requires { ⌜ ((t : Term) × TermAt (now src) at k t) ⌝ }
+    ensures { λ r. ⌜ ((t : Term) → TermAt (now (src .entry)) at k t → r ≡ ownSize t) ⌝ }
+{
+    let kind = buffer::get_u16(src, at + 2);
+    if kind == 36 {
+        return 4 + 8 * k as usize;
+    }
+    if kind == 37 {
+        if buffer::get_u16(src, at + 10) < 34 {
+            return 16;
+        }
+        return 20;
+    }
+    if kind == 38 {
+        return 4;
+    }
+    20 + 8 * k as usize
+}
+
+fn is_all(src: &[u8], at: usize, k: u32) -> bool
+    requires { ⌜ ((ys : List Atom) × AtomsAt (now src) at ys × (length ys ≡ k)) × (k ≤ 16) ⌝ }
+    ensures { λ r. ⌜ ((ys : List Atom) → AtomsAt (now (src .entry)) at ys → length ys ≡ k → r ≡ sameAtoms ys (all k)) ⌝ }
+{
+    let mut p = at;
+    let mut i = 1;
+    while i <= k {
+        if buffer::get_u16(src, p + 2) != 33 {
+            return false;
+        }
+        if buffer::get_u32(src, p + 4) != i {
+            return false;
+        }
+        p += 8;
+        i += 1;
+    }
+    true
+}
+
+// Whether a translation may have this term here, the terms inside it aside; `first` says that it is a let-all's first term.
+fn is_legal(src: &[u8], at: usize, k: u32, first: bool) -> bool
+    requires { ⌜ ((t : Term) × TermAt (now src) at k t) × (k ≤ 16) ⌝ }
+    ensures { λ r. ⌜ ((t : Term) → TermAt (now (src .entry)) at k t → r ≡ legal k first t) ⌝ }
+{
+    let kind = buffer::get_u16(src, at + 2);
+    if kind == 36 {
+        return is_all(src, at + 4, k);
+    }
+    if kind == 37 {
+        if buffer::get_u16(src, at + 10) < 34 {
+            return true;
+        }
+        return buffer::get_u16(src, at + 14) == 33;
+    }
+    if kind == 38 {
+        return true;
+    }
+    if first {
+        return is_all(src, at + 20, k);
+    }
+    false
+}
+
+pub fn is_translation(src: &[u8], used: usize, k: u32) -> bool
+    requires { ⌜ ((t : Term) × TermIn allVars k t (now src) used) × (length (now src) ≤ 16384) ⌝ }
+    ensures { λ r. ⌜ ((t : Term) → TermIn allVars k t (now (src .entry)) used → r ≡ not (isNone (readBack k t))) ⌝ }
+{
+    let mut first = false;
+    let mut at = CONTENTS;
+    while at < used {
+        if !is_legal(src, at, k, first) {
+            return false;
+        }
+        first = buffer::get_u16(src, at + 2) == 38;
+        at += own_size(src, at, k);
+    }
+    true
+}
