@@ -12,6 +12,7 @@ use Rattle.buffer.specs.LittleEndian.{le, val}
 use Rattle.buffer.specs.Slice.{part}
 use Rattle.place.specs.Heads.{recordHead}
 use Rattle.place.specs.TermView.{TermAt, TermView, isLetAllAt, isLetOneAt, isRecAt, isTupleAt, simpleKind}
+use Rattle.record.specs.Header.{encodeProgram}
 use Rattle.record.specs.Program.{blockSize, boundFrom, boundKind, boundNumber, encodeBlock, encodeBound, encodeExpr, exprFrom, exprKind, exprNumber}
 use Rattle.record.specs.Term.{atomKind, atomNumber, kindOfTerm, simpleSize}
 use Rattle.rules.specs.FreeVariables.{atomOfSimple}
@@ -24,10 +25,12 @@ use Rattle.place.proofs.ProgramBytesLaws.{encodeBlock-assign, encodeBlock-empty
 use Rattle.place.proofs.SourceKindLaws.{kind-atomOf, kind-simpleOf, number-atomOf, number-simpleOf, kindOfTerm-rec}
 use Rattle.place.proofs.TermBytesLaws.{simple-high, simple-low}
 use Rattle.place.proofs.TermViewLaws.{as-letAll, as-letOne, as-rec, as-tuple, term-room}
+use Rattle.record.proofs.HeaderLaws.{length-encodeProgram}
 use Rattle.record.proofs.ProgramLaws.{length-encodeBlock}
 use Rattle.rules.proofs.ReadBackLaws.{translate-readBack}
 use Rattle.term.specs.CommandBytes.{assignBytes, commandsOf, commandsOfAll, leafBytes, letOneBytes, loopBytes, nestBytes, ownCommand, recBytes}
-use Rattle.term.specs.Scan.{inner, ownSize}
+use Rattle.term.specs.Scan.{TermsAt, inner, ownSize}
+use Rattle.term.proofs.ScanLaws.{terms-end, terms-first, terms-order}
 
 -- A TRANSLATION'S COMMANDS ARE THE PROGRAM'S
 
@@ -155,8 +158,63 @@ module _ {l : List ℕ} {p k : ℕ} {t : Term} (h : TermAt l p k t) where
       go (letAll s u) n = refl
       go (rec x a ys u) n = absurd (n x a ys u refl)
 
+  pub length-nest : val (part l (p + 2) 2) ≡ 38 → (val (part l (p + 6) 2) ≡ 39 → ⊥) → length (ownCommand t) ≡ 4
+  length-nest e f = ap length (command-nest e f) ∙ length-recordHead 1 (4 + length (commandsOf (as-letAll h e .first)))
+
   pub length-rec : val (part l (p + 2) 2) ≡ 39 → length (ownCommand t) ≡ 20
   unfolding ownCommand
   length-rec e =
       let v = as-rec h e in
       ap (λ (u : Term). length (ownCommand u)) (v .is) ∙ length-loop (v .variable) (atomKind (v .count) - 16) (atomNumber (v .count)) (length (commandsOf (v .body)))
+
+-- THE LOOP THAT COUNTS THEM
+
+-- When the loop comes to index `at` with n bytes counted, the rest of the bytes of ts come of the terms that are left.
+pub record ToCount (l : List ℕ) (k to n at : ℕ) (ts : List Term) : Type 0 where
+  pub terms : List Term
+  pub row : TermsAt l k to at terms
+  pub same : n + length (commandsOfAll terms) ≡ length (commandsOfAll ts)
+
+pub count-start : {l : List ℕ} {k to p : ℕ} {ts : List Term} → TermsAt l k to p ts → ToCount l k to 0 p ts
+count-start {ts = ts} h = record { terms = ts; row = h; same = omega arith }
+
+module _ {l : List ℕ} {k to n at : ℕ} {ts : List Term} (s : ToCount l k to n at ts) where
+  pub count-end : to ≤ at → n ≡ length (commandsOfAll ts)
+  count-end b = omega (arith, s .same, ap length (commands-end (s .terms) (terms-end (s .row) b)))
+
+  module _ (b : at < to) where
+    -- the term that the loop stands at
+    pub count-here : (u : Term) × TermAt l at k u
+    count-here = let f = terms-first (s .row) b in (f .term, f .here)
+
+    pub count-room : (m : ℕ) → ((u : Term) → TermAt l at k u → m ≡ length (ownCommand u)) → at + m ≤ to
+    count-room m is-command =
+        let f = terms-first (s .row) b in
+        let e : m ≡ length (ownCommand (f .term)) = is-command (f .term) (f .here) in
+        omega (arith, command-short (f .term), terms-order (f .after))
+
+    module _ (m o : ℕ) (is-command : (u : Term) → TermAt l at k u → m ≡ length (ownCommand u)) (is-size : (u : Term) → TermAt l at k u → o ≡ ownSize u) where
+      pub count-next : ToCount l k to (n + m) (at + o) ts
+      count-next =
+          let f = terms-first (s .row) b in
+          let e : m ≡ length (ownCommand (f .term)) = is-command (f .term) (f .here) in
+          let q : length (commandsOfAll (s .terms)) ≡ length (ownCommand (f .term)) + length (commandsOfAll (inner (f .term) ++ f .rest)) =
+          ap (λ (us : List Term). length (commandsOfAll us)) (f .is) ∙ length-commands (f .term) (f .rest) in
+          record {
+            terms = inner (f .term) ++ f .rest;
+            row = rw (is-size (f .term) (f .here)) (f .after);
+            same = omega (arith, s .same);
+          }
+
+      -- no more bytes are counted than passed
+      pub count-low : m ≤ o
+      count-low =
+          let f = terms-first (s .row) b in
+          let e : m ≡ length (ownCommand (f .term)) = is-command (f .term) (f .here) in
+          let q : o ≡ ownSize (f .term) = is-size (f .term) (f .here) in
+          omega (arith, command-short (f .term))
+
+pub program-length : (k : ℕ) (t : Term) (b : Block) → readBack k t ≡ some b → 12 + length (commandsOfAll (t ∷ [])) ≡ length (encodeProgram k b)
+program-length k t b e =
+    let q : length (commandsOfAll (t ∷ [])) ≡ blockSize b = ap length (commands-one t ∙ commands-readBack k t b e) ∙ length-encodeBlock b in
+    omega (arith, length-encodeProgram k b)

@@ -3,17 +3,20 @@
 ghost use mathlib.Core.Path.{_≡_};
 ghost use mathlib.Core.Bool.{not};
 ghost use mathlib.Core.List.{List};
+ghost use mathlib.Core.Option.{some};
 ghost use Prim.Native.Nat.{ℕ, _+_, _≤_};
 ghost use lib.ListN.{length};
 ghost use Rattle.place.specs.TermView.{AtomsAt, TermAt};
+ghost use Rattle.record.specs.Header.{encodeProgram};
 ghost use Rattle.record.specs.Holding.{TermIn};
 ghost use Rattle.record.specs.Rows.{isNone};
 ghost use Rattle.rules.specs.FreeVariables.{allVars};
 ghost use Rattle.rules.specs.ReadBack.{readBack, sameAtoms};
-ghost use Rattle.rules.specs.Syntax.{Atom, Term};
+ghost use Rattle.rules.specs.Syntax.{Atom, Block, Term};
 ghost use Rattle.rules.specs.Translation.{all};
+ghost use Rattle.term.specs.CommandBytes.{commandsOfAll, ownCommand};
 ghost use Rattle.term.specs.Recognition.{legal};
-ghost use Rattle.term.specs.Scan.{ownSize};
+ghost use Rattle.term.specs.Scan.{TermsAt, ownSize};
 
 // Where the contents of a program's and a term's record start.
 const CONTENTS: usize = 8;
@@ -96,4 +99,48 @@ pub fn is_translation(src: &[u8], used: usize, k: u32) -> bool
         at += own_size(src, at, k);
     }
     true
+}
+
+// The bytes of commands that come of a term's own bytes. A let-all of a rec has none: the rec stands for the whole loop.
+fn own_command_size(src: &[u8], at: usize) -> usize
+    requires { ⌜ ((k : ℕ) × (t : Term) × TermAt (now src) at k t) ⌝ }
+    ensures { λ r. ⌜ ((k : ℕ) (t : Term) → TermAt (now (src .entry)) at k t → r ≡ length (ownCommand t)) ⌝ }
+{
+    let kind = buffer::get_u16(src, at + 2);
+    if kind == 36 {
+        return 0;
+    }
+    if kind == 37 {
+        return 16;
+    }
+    if kind == 38 {
+        if buffer::get_u16(src, at + 6) == 39 {
+            return 0;
+        }
+        return 4;
+    }
+    20
+}
+
+// The bytes of all commands of the terms between two places.
+fn commands_size(src: &[u8], from: usize, to: usize, k: u32) -> usize
+    requires { ⌜ ((ts : List Term) × TermsAt (now src) k to from ts) × (to ≤ length (now src)) ⌝ }
+    ensures is { λ r. ⌜ ((ts : List Term) → TermsAt (now (src .entry)) k to from ts → r ≡ length (commandsOfAll ts)) ⌝ }
+    ensures low { λ r. ⌜ from + r ≤ to ⌝ }
+{
+    let mut n = 0;
+    let mut at = from;
+    while at < to {
+        n += own_command_size(src, at);
+        at += own_size(src, at, k);
+    }
+    n
+}
+
+// The length of the program's record.
+pub fn source_size(src: &[u8], used: usize, k: u32) -> usize
+    requires { ⌜ ((t : Term) × TermIn allVars k t (now src) used) × (length (now src) ≤ 16384) ⌝ }
+    ensures { λ r. ⌜ ((t : Term) (P : Block) → TermIn allVars k t (now (src .entry)) used → readBack k t ≡ some P → r ≡ length (encodeProgram k P)) ⌝ }
+{
+    CONTENTS + 4 + commands_size(src, CONTENTS, used, k)
 }
