@@ -6,6 +6,8 @@ ghost use mathlib.Core.List.{List};
 ghost use mathlib.Core.Option.{some};
 ghost use Prim.Native.Nat.{ℕ, _+_, _≤_};
 ghost use lib.ListN.{length};
+ghost use Rattle.buffer.specs.Slice.{put};
+ghost use Rattle.place.specs.Heads.{recordHead};
 ghost use Rattle.place.specs.TermView.{AtomsAt, TermAt};
 ghost use Rattle.record.specs.Header.{encodeProgram};
 ghost use Rattle.record.specs.Holding.{TermIn};
@@ -14,7 +16,7 @@ ghost use Rattle.rules.specs.FreeVariables.{allVars};
 ghost use Rattle.rules.specs.ReadBack.{readBack, sameAtoms};
 ghost use Rattle.rules.specs.Syntax.{Atom, Block, Term};
 ghost use Rattle.rules.specs.Translation.{all};
-ghost use Rattle.term.specs.CommandBytes.{commandsOfAll, ownCommand};
+ghost use Rattle.term.specs.CommandBytes.{assignBytes, commandsOfAll, leafBytes, loopBytes, ownCommand};
 ghost use Rattle.term.specs.Recognition.{legal};
 ghost use Rattle.term.specs.Scan.{TermsAt, ownSize};
 
@@ -143,4 +145,39 @@ pub fn source_size(src: &[u8], used: usize, k: u32) -> usize
     ensures { λ r. ⌜ ((t : Term) (P : Block) → TermIn allVars k t (now (src .entry)) used → readBack k t ≡ some P → r ≡ length (encodeProgram k P)) ⌝ }
 {
     CONTENTS + 4 + commands_size(src, CONTENTS, used, k)
+}
+
+fn put_head(out: &mut [u8], at: usize, kind: usize, n: usize)
+    requires { ⌜ at + 4 ≤ length (now out) ⌝ }
+    ensures { λ _. ⌜ now (out .exit) ≡ put (now (out .entry)) at (recordHead kind n) ⌝ }
+{
+    buffer::put_u16(out, at, n);
+    buffer::put_u16(out, at + 2, kind);
+}
+
+fn put_leaf(out: &mut [u8], at: usize, kind: usize, v: u32)
+    requires { ⌜ at + 8 ≤ length (now out) ⌝ }
+    ensures { λ _. ⌜ now (out .exit) ≡ put (now (out .entry)) at (leafBytes kind v) ⌝ }
+{
+    put_head(out, at, kind, 8);
+    buffer::put_u32(out, at + 4, v);
+}
+
+fn put_assign(out: &mut [u8], at: usize, x: u32, kind: usize, v: u32)
+    requires { ⌜ at + 16 ≤ length (now out) ⌝ }
+    ensures { λ _. ⌜ now (out .exit) ≡ put (now (out .entry)) at (assignBytes x kind v) ⌝ }
+{
+    put_head(out, at, 2, 16);
+    buffer::put_u32(out, at + 4, x);
+    put_leaf(out, at + 8, kind, v);
+}
+
+fn put_loop(out: &mut [u8], at: usize, x: u32, kind: usize, v: u32, n: usize)
+    requires { ⌜ (at + 20 ≤ length (now out)) × (n ≤ 16384) ⌝ }
+    ensures { λ _. ⌜ now (out .exit) ≡ put (now (out .entry)) at (loopBytes x kind v n) ⌝ }
+{
+    put_head(out, at, 3, 20 + n);
+    buffer::put_u32(out, at + 4, x);
+    put_leaf(out, at + 8, kind, v);
+    put_head(out, at + 16, 1, 4 + n);
 }
