@@ -1,12 +1,15 @@
 -- Laws of a scan: what it stands at after a term's own bytes, and how many these are by the kind read.
 use Prim.Native.Nat.{_*_, _+_, _<_, _≤_, ℕ}
 use mathlib.Core.Path.{ap, refl, subst, sym, _∙_, _≡_}
+use mathlib.Core.Bool.{Bool, false, true}
 use mathlib.Core.List.{_++_, List, [], _∷_}
+use borrow.Author.Tests.{ltb-false, ltb-true}
+use lib.Dec.{ltb}
 use lib.ListN.{length}
 use native.Mathlib.Omega.{arith}
 use Rattle.buffer.specs.LittleEndian.{val}
 use Rattle.buffer.specs.Slice.{part}
-use Rattle.place.specs.TermView.{TermAt, TermView, isLetAllAt, isLetOneAt, isRecAt, isTupleAt}
+use Rattle.place.specs.TermView.{TermAt, TermView, isLetAllAt, isLetOneAt, isRecAt, isTupleAt, simpleKind}
 use Rattle.record.specs.Term.{simpleSize, termSize}
 use Rattle.rules.specs.Syntax.{Atom, Simple, Term, letAll, letOne, rec, tuple}
 use Rattle.place.proofs.TermBytesLaws.{simple-high, simple-low, termSize-letAll, termSize-letOne, termSize-rec, termSize-tuple}
@@ -82,6 +85,13 @@ terms-pass h b n e =
 
 -- HOW MANY BYTES A TERM HAS OF ITS OWN
 
+pub simple-least : (s : Simple) → 8 ≤ simpleSize s
+simple-least s = go (ltb (simpleKind s) 34) refl
+  where
+    go : (b : Bool) → ltb (simpleKind s) 34 ≡ b → 8 ≤ simpleSize s
+    go true e = omega (arith, simple-low s (ltb-true (simpleKind s) 34 e))
+    go false e = omega (arith, simple-high s (ltb-false (simpleKind s) 34 e))
+
 module _ {l : List ℕ} {p k : ℕ} {t : Term} (h : TermAt l p k t) where
   pub own-tuple : val (part l (p + 2) 2) ≡ 36 → ownSize t ≡ 4 + 8 * k
   unfolding ownSize
@@ -92,13 +102,15 @@ module _ {l : List ℕ} {p k : ℕ} {t : Term} (h : TermAt l p k t) where
     pub own-room : p + 12 ≤ length l
     own-room = let v = as-letOne h e in omega (arith, term-room (v .last-at))
 
-    pub own-atom : val (part l (p + 10) 2) < 34 → ownSize t ≡ 16
+    pub own-letOne : ownSize t ≡ 8 + simpleSize (as-letOne h e .bound)
     unfolding ownSize
-    own-atom b = let v = as-letOne h e in ap ownSize (v .is) ∙ ap (λ (n : ℕ). 8 + n) (simple-low (v .bound) (rw (v .kind-read) at b))
+    own-letOne = ap ownSize (as-letOne h e .is)
+
+    pub own-atom : val (part l (p + 10) 2) < 34 → ownSize t ≡ 16
+    own-atom b = let v = as-letOne h e in own-letOne ∙ ap (λ (n : ℕ). 8 + n) (simple-low (v .bound) (rw (v .kind-read) at b))
 
     pub own-of : 34 ≤ val (part l (p + 10) 2) → ownSize t ≡ 20
-    unfolding ownSize
-    own-of b = let v = as-letOne h e in ap ownSize (v .is) ∙ ap (λ (n : ℕ). 8 + n) (simple-high (v .bound) (rw (v .kind-read) at b))
+    own-of b = let v = as-letOne h e in own-letOne ∙ ap (λ (n : ℕ). 8 + n) (simple-high (v .bound) (rw (v .kind-read) at b))
 
   pub own-letAll : val (part l (p + 2) 2) ≡ 38 → ownSize t ≡ 4
   unfolding ownSize

@@ -4,9 +4,10 @@ ghost use mathlib.Core.Path.{_≡_};
 ghost use mathlib.Core.Bool.{not};
 ghost use mathlib.Core.List.{List};
 ghost use mathlib.Core.Option.{some};
-ghost use Prim.Native.Nat.{ℕ, _+_, _≤_};
+ghost use Prim.Native.Nat.{ℕ, _+_, _<_, _≤_};
 ghost use lib.ListN.{length};
-ghost use Rattle.buffer.specs.Slice.{put};
+ghost use Rattle.buffer.specs.LittleEndian.{val};
+ghost use Rattle.buffer.specs.Slice.{part, put};
 ghost use Rattle.place.specs.Heads.{recordHead};
 ghost use Rattle.place.specs.TermView.{AtomsAt, TermAt};
 ghost use Rattle.record.specs.Header.{encodeProgram};
@@ -173,11 +174,49 @@ fn put_assign(out: &mut [u8], at: usize, x: u32, kind: usize, v: u32)
 }
 
 fn put_loop(out: &mut [u8], at: usize, x: u32, kind: usize, v: u32, n: usize)
-    requires { ⌜ (at + 20 ≤ length (now out)) × (n ≤ 16384) ⌝ }
+    requires { ⌜ (at + 20 ≤ length (now out)) × (n < 65536) ⌝ }
     ensures { λ _. ⌜ now (out .exit) ≡ put (now (out .entry)) at (loopBytes x kind v n) ⌝ }
 {
     put_head(out, at, 3, 20 + n);
     buffer::put_u32(out, at + 4, x);
     put_leaf(out, at + 8, kind, v);
     put_head(out, at + 16, 1, 4 + n);
+}
+
+fn write_let_one(src: &[u8], at: usize, k: u32, out: &mut [u8], o: usize)
+    requires { ⌜ ((t : Term) × TermAt (now src) at k t × (o + length (ownCommand t) ≤ length (now out))) × (val (part (now src) (at + 2) 2) ≡ 37) ⌝ }
+    ensures { λ _. ⌜ ((t : Term) → TermAt (now (src .entry)) at k t → now (out .exit) ≡ put (now (out .entry)) o (ownCommand t)) ⌝ }
+{
+    let x = buffer::get_u32(src, at + 4);
+    let kind = buffer::get_u16(src, at + 10) - 16;
+    // A let-one's own bytes end with the number of its atom.
+    let v = buffer::get_u32(src, at + own_size(src, at, k) - 4);
+    put_assign(out, o, x, kind, v);
+}
+
+fn write_let_all(src: &[u8], at: usize, k: u32, out: &mut [u8], o: usize)
+    requires { ⌜ ((t : Term) × TermAt (now src) at k t × (o + length (ownCommand t) ≤ length (now out))) × (val (part (now src) (at + 2) 2) ≡ 38) ⌝ }
+    ensures { λ _. ⌜ ((t : Term) → TermAt (now (src .entry)) at k t → now (out .exit) ≡ put (now (out .entry)) o (ownCommand t)) ⌝ }
+{
+    if buffer::get_u16(src, at + 6) == 39 {
+        return;
+    }
+    let n = commands_size(src, at + 4, at + 4 + buffer::get_u16(src, at + 4), k);
+    put_head(out, o, 1, 4 + n);
+}
+
+fn write_rec(src: &[u8], at: usize, k: u32, out: &mut [u8], o: usize)
+    requires { ⌜ ((t : Term) × TermAt (now src) at k t × (o + length (ownCommand t) ≤ length (now out))) × (val (part (now src) (at + 2) 2) ≡ 39) ⌝ }
+    ensures { λ _. ⌜ ((t : Term) → TermAt (now (src .entry)) at k t → now (out .exit) ≡ put (now (out .entry)) o (ownCommand t)) ⌝ }
+{
+    let x = buffer::get_u32(src, at + 4);
+    let kind = buffer::get_u16(src, at + 10) - 16;
+    let v = buffer::get_u32(src, at + 12);
+    let n = commands_size(
+        src,
+        at + own_size(src, at, k),
+        at + buffer::get_u16(src, at),
+        k,
+    );
+    put_loop(out, o, x, kind, v, n);
 }
