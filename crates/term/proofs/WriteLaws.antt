@@ -2,21 +2,32 @@
 use Prim.Native.Nat.{_*_, _+_, _-_, _<_, _≤_, ℕ}
 use mathlib.Core.Path.{ap, refl, sym, _∙_, _≡_}
 use mathlib.Core.List.{_++_, List, [], _∷_}
+use mathlib.Core.Option.{some}
 use lib.ListN.{length, length-append}
 use native.Mathlib.Omega.{arith}
-use Rattle.buffer.specs.LittleEndian.{val}
-use Rattle.buffer.specs.Slice.{part, put}
+use Rattle.buffer.specs.LittleEndian.{le, val}
+use Rattle.buffer.specs.Slice.{part, put, zeros}
 use Rattle.place.specs.Heads.{recordHead}
 use Rattle.place.specs.TermView.{TermAt, simpleKind}
+use Rattle.record.specs.Answers.{padded}
+use Rattle.record.specs.Header.{encodeProgram}
+use Rattle.record.specs.Program.{blockSize, encodeBlock}
 use Rattle.record.specs.Term.{atomKind, atomNumber, simpleSize}
 use Rattle.rules.specs.FreeVariables.{atomOfSimple}
-use Rattle.rules.specs.Syntax.{Term}
+use Rattle.rules.specs.ReadBack.{readBack}
+use Rattle.rules.specs.Syntax.{Block, Term}
+use Rattle.buffer.proofs.LittleEndianLaws.{length-le}
 use Rattle.buffer.proofs.SliceLaws.{put-nil, put-put}
+use Rattle.buffer.proofs.StoresLaws.{stores-4}
+use Rattle.place.proofs.HeadsLaws.{length-recordHead}
+use Rattle.place.proofs.ProgramRecordLaws.{encodeProgram-head}
 use Rattle.place.proofs.TermBytesLaws.{atomKind-range}
 use Rattle.place.proofs.TermViewLaws.{as-letAll, as-letOne, as-rec, atom-view, simple-kind, term-index, term-room}
+use Rattle.record.proofs.HeaderLaws.{length-encodeProgram}
+use Rattle.record.proofs.PaddedLaws.{written-padded}
 use Rattle.term.specs.CommandBytes.{assignBytes, commandsOf, commandsOfAll, loopBytes, ownCommand}
 use Rattle.term.specs.Scan.{TermsAt, inner, ownSize}
-use Rattle.term.proofs.CommandLaws.{command-nest, commands-end, commands-one, commands-step, length-commands}
+use Rattle.term.proofs.CommandLaws.{command-nest, commands-end, commands-one, commands-readBack, commands-step, length-commands}
 use Rattle.term.proofs.ScanLaws.{own-letOne, simple-least, own-rec, terms-end, terms-first, terms-one}
 
 module _ {l : List ℕ} {p k : ℕ} {t : Term} (h : TermAt l p k t) where
@@ -110,7 +121,7 @@ module _ {l : List ℕ} {k to at : ℕ} {b : List ℕ} {o : ℕ} {b₀ : List �
         ap (λ (us : List Term). length (commandsOfAll us)) (f .is) ∙ length-commands (f .term) (f .rest) in
         (f .term, f .here, omega (arith, s .room))
 
-    pub write-next : (b₁ : List ℕ) (m i : ℕ) → q + length (commandsOfAll ts) ≤ length b
+    pub write-next : (b₁ : List ℕ) (m i : ℕ) → o + m ≤ length b
         → ((u : Term) → TermAt l at k u → b₁ ≡ put b o (ownCommand u)) → ((u : Term) → TermAt l at k u → m ≡ length (ownCommand u))
         → ((u : Term) → TermAt l at k u → i ≡ ownSize u) → ToWrite l k to (at + i) b₁ (o + m) b₀ q ts
     write-next b₁ m i fits is-put is-command is-size =
@@ -126,3 +137,21 @@ module _ {l : List ℕ} {k to at : ℕ} {b : List ℕ} {o : ℕ} {b₀ : List �
           same = rw (is-put (f .term) (f .here)) (put-put b c d o (o + m) (omega arith) (omega arith)) ∙ ap (put b o) (sym e) ∙ s .same;
           room = omega arith;
         }
+
+-- THE WHOLE RECORD: its head, k, its block's head, the commands, and zeros behind them
+
+pub write-program : (k : ℕ) (t : Term) (b : Block) → readBack k t ≡ some b → (out out₁ out₂ out₃ out₄ out₅ : List ℕ) (n room : ℕ)
+    → n ≡ length (encodeProgram k b) → n ≤ length out → room ≡ length out
+    → out₁ ≡ put out 0 (recordHead 7 n) → out₂ ≡ put out₁ 4 (le 4 k) → out₃ ≡ put out₂ 8 (recordHead 1 (n - 8))
+    → out₄ ≡ put out₃ 12 (commandsOfAll (t ∷ [])) → out₅ ≡ put out₄ n (zeros (room - n))
+    → out₅ ≡ padded (length out) (encodeProgram k b)
+write-program k t b e out out₁ out₂ out₃ out₄ out₅ n room en h er e₁ e₂ e₃ e₄ e₅ =
+    let z : n ≡ 12 + blockSize b = en ∙ length-encodeProgram k b in
+    let z₈ : n - 8 ≡ 4 + blockSize b = omega arith in
+    let c : commandsOfAll (t ∷ []) ≡ encodeBlock b = commands-one t ∙ commands-readBack k t b e in
+    let w : recordHead 7 n ++ (le 4 k ++ (recordHead 1 (n - 8) ++ commandsOfAll (t ∷ []))) ≡ encodeProgram k b = rw (c, z₈, z) (sym (encodeProgram-head k b)) in
+    written-padded out out₄ out₅ (encodeProgram k b) n (sym en) h
+    (stores-4 out out₁ out₂ out₃ out₄ (recordHead 7 n) (le 4 k) (recordHead 1 (n - 8)) (commandsOfAll (t ∷ [])) 0 4 8 12 e₁ e₂ e₃ e₄
+    (omega (arith, length-recordHead 7 n)) (omega (arith, length-le 4 k)) (omega (arith, length-recordHead 1 (n - 8))) (omega arith)
+    ∙ ap (put out 0) w)
+    (e₅ ∙ ap (λ (y : ℕ). put out₄ n (zeros (y - n))) er)

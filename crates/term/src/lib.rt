@@ -1,2 +1,2 @@
-// Calls on terms' records. Only what works on checked input is here yet.
-mod read_back;
+// The calls on terms. Only what works on checked input is here yet.
+pub mod read_back;

@@ -10,6 +10,7 @@ ghost use Rattle.buffer.specs.LittleEndian.{val};
 ghost use Rattle.buffer.specs.Slice.{part, put};
 ghost use Rattle.place.specs.Heads.{recordHead};
 ghost use Rattle.place.specs.TermView.{AtomsAt, TermAt};
+ghost use Rattle.record.specs.Answers.{padded};
 ghost use Rattle.record.specs.Header.{encodeProgram};
 ghost use Rattle.record.specs.Holding.{TermIn};
 ghost use Rattle.record.specs.Rows.{isNone};
@@ -219,4 +220,50 @@ fn write_rec(src: &[u8], at: usize, k: u32, out: &mut [u8], o: usize)
         k,
     );
     put_loop(out, o, x, kind, v, n);
+}
+
+fn write_own(src: &[u8], at: usize, k: u32, out: &mut [u8], o: usize)
+    requires { ⌜ ((t : Term) × TermAt (now src) at k t × (o + length (ownCommand t) ≤ length (now out))) ⌝ }
+    ensures { λ _. ⌜ ((t : Term) → TermAt (now (src .entry)) at k t → now (out .exit) ≡ put (now (out .entry)) o (ownCommand t)) ⌝ }
+{
+    let kind = buffer::get_u16(src, at + 2);
+    if kind == 36 {
+        return;
+    }
+    if kind == 37 {
+        write_let_one(src, at, k, out, o);
+        return;
+    }
+    if kind == 38 {
+        write_let_all(src, at, k, out, o);
+        return;
+    }
+    write_rec(src, at, k, out, o);
+}
+
+fn write_commands(src: &[u8], from: usize, to: usize, k: u32, out: &mut [u8], start: usize)
+    requires { ⌜ ((ts : List Term) × TermsAt (now src) k to from ts × (start + length (commandsOfAll ts) ≤ length (now out))) × (to ≤ length (now src)) ⌝ }
+    ensures { λ _. ⌜ ((ts : List Term) → TermsAt (now (src .entry)) k to from ts → now (out .exit) ≡ put (now (out .entry)) start (commandsOfAll ts)) ⌝ }
+{
+    let mut at = from;
+    let mut o = start;
+    while at < to {
+        write_own(src, at, k, out, o);
+        o += own_command_size(src, at);
+        at += own_size(src, at, k);
+    }
+}
+
+// The program's record, and zeros behind it.
+pub fn write_source(src: &[u8], used: usize, k: u32, out: &mut [u8])
+    requires { ⌜ ((t : Term) × (P : Block) × TermIn allVars k t (now src) used × (readBack k t ≡ some P) × (length (encodeProgram k P) ≤ length (now out))) × (length (now src) ≤ 16384) ⌝ }
+    ensures { λ _. ⌜ ((t : Term) (P : Block) → TermIn allVars k t (now (src .entry)) used → readBack k t ≡ some P → now (out .exit) ≡ padded (length (now (out .entry))) (encodeProgram k P)) ⌝ }
+{
+    let n = source_size(src, used, k);
+    put_head(out, 0, 7, n);
+    buffer::put_u32(out, 4, k);
+    put_head(out, CONTENTS, 1, n - CONTENTS);
+    write_commands(src, CONTENTS, used, k, out, CONTENTS + 4);
+    let room = out.len();
+    buffer::zero(out, n, room - n);
 }
