@@ -1,2 +1,3 @@
 pub mod LittleEndianLaws
 pub mod SliceLaws
+pub mod StoresLaws

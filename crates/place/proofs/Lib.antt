@@ -12,3 +12,6 @@ pub mod EditLaws
 pub mod ProgramEditLaws
 pub mod TermEditLaws
 pub mod TermPutLaws
+pub mod HeldTermLaws
+pub mod ProgramRecordLaws
+pub mod SourceKindLaws

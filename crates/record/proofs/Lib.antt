@@ -19,3 +19,4 @@ pub mod RowMeaningLaws
 pub mod HeaderReadLaws
 pub mod AloneLaws
 pub mod TermReadLaws
+pub mod PaddedLaws

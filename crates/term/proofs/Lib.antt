@@ -1,2 +1,7 @@
 pub mod CallLaws
 pub mod CallMeaningLaws
+pub mod ScanLaws
+pub mod RecognitionLaws
+pub mod AllLaws
+pub mod CommandLaws
+pub mod WriteLaws

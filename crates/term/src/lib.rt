@@ -1,1 +1,2 @@
-// No code yet: the crate is its definitions (specs) and theorems (proofs).
+// The calls on terms. Only what works on checked input is here yet.
+pub mod read_back;
