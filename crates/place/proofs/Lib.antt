@@ -5,3 +5,4 @@ pub mod ProgramBytesLaws
 pub mod ProgramViewLaws
 pub mod TermBytesLaws
 pub mod TermViewLaws
+pub mod TermSubstitutionLaws
