@@ -6,3 +6,4 @@ pub mod ProgramViewLaws
 pub mod TermBytesLaws
 pub mod TermViewLaws
 pub mod TermSubstitutionLaws
+pub mod TermRecordLaws

@@ -1,7 +1,7 @@
 -- Substitution over the bytes of a term that stands at an index: what is stored over a part of it is stored over the whole.
 use Prim.Native.Nat.{_*_, _+_, _≤_, ℕ}
-use mathlib.Core.Path.{ap, refl, subst, sym, _∙_, _≡_}
-use mathlib.Core.List.{_++_, List, [], append-assoc, append-nil, map}
+use mathlib.Core.Path.{ap, refl, sym, _∙_, _≡_}
+use mathlib.Core.List.{_++_, List, [], append-assoc, append-nil, map, _∷_}
 use lib.ListN.{drop, length, length-append, length-drop, length-map}
 use lib.Seq.{drop-append-le, drop-at}
 use native.Mathlib.Omega.{arith}
@@ -9,19 +9,20 @@ use Rattle.buffer.specs.LittleEndian.{le}
 use Rattle.buffer.specs.Slice.{put}
 use Rattle.rules.specs.FreeVariables.{atomOfSimple}
 use Rattle.rules.specs.Substitution.{Substitution, except, substitute, substituteAtom, substituteSimple}
-use Rattle.rules.specs.Syntax.{Atom, Simple, Term, letAll, letOne, plain, predOf, rec, succOf, tuple}
-use Rattle.record.specs.Term.{encodeAtom, encodeAtoms, encodeSimple, encodeTermRecord, simpleSize, termSize}
+use Rattle.rules.specs.Syntax.{Atom, Simple, Term, letAll, letOne, num, plain, predOf, rec, succOf, tuple}
+use Rattle.record.specs.Term.{atomFrom, atomKind, atomNumber, encodeAtom, encodeAtoms, encodeSimple, encodeTermRecord, simpleSize, termSize}
 use Rattle.buffer.proofs.LittleEndianLaws.{length-le}
-use Rattle.buffer.proofs.SliceLaws.{put-put}
+use Rattle.buffer.proofs.SliceLaws.{put-nil, put-put}
 use Rattle.record.proofs.TermLaws.{length-encodeAtoms}
 use Rattle.record.proofs.WordsLaws.{termSize-substitute}
 use Rattle.place.specs.At.{At}
 use Rattle.place.specs.Heads.{recordHead}
-use Rattle.place.specs.TermView.{LetAllView, LetOneView, RecView, TermAt, TupleView}
+use Rattle.place.specs.TermView.{AtomAt, AtomsAt, LetAllView, LetOneView, RecView, TermAt, TupleView}
 use Rattle.place.proofs.AtLaws.{at-room, put-at, put-part}
 use Rattle.place.proofs.HeadsLaws.{length-recordHead}
-use Rattle.place.proofs.TermViewLaws.{term-index}
-use Rattle.place.proofs.TermBytesLaws.{encodeSimple-plain, encodeSimple-pred, encodeSimple-succ, encodeTermRecord-letAll, encodeTermRecord-letOne, encodeTermRecord-rec, encodeTermRecord-tuple, length-encodeAtom, length-encodeTermRecord}
+use Rattle.place.proofs.ProgramBytesLaws.{encodeLeaf-head}
+use Rattle.place.proofs.TermViewLaws.{atoms-first, term-index}
+use Rattle.place.proofs.TermBytesLaws.{encodeAtoms-cons, encodeSimple-plain, encodeSimple-pred, encodeSimple-succ, encodeTermRecord-letAll, encodeTermRecord-letOne, encodeTermRecord-rec, encodeTermRecord-tuple, length-encodeAtom, length-encodeTermRecord}
 
 -- STORES IN GENERAL
 
@@ -48,6 +49,21 @@ term-behind h u b vs e = record { here = at-behind h (u .here) b vs e; words = u
 store-part : {l : List ℕ} {p : ℕ} {m : List ℕ} → At l p m → (a b c vs n : List ℕ) (q : ℕ) → m ≡ a ++ (b ++ c) → n ≡ a ++ (vs ++ c) → p + length a ≡ q → length b ≡ length vs
     → put l q vs ≡ put l p n
 store-part {l} {p} h a b c vs n q e f i z = put-part h a b c vs q e i z ∙ ap (put l p) (sym f)
+
+-- ATOMS
+
+atom-parts : (a : Atom) → encodeAtom a ≡ le 2 8 ++ ((le 2 (atomKind a) ++ le 4 (atomNumber a)) ++ [])
+unfolding recordHead
+atom-parts a = encodeLeaf-head atomKind atomNumber atomFrom a ∙ simp (append-assoc, append-nil)
+
+-- the kind and the number of a numeral over an atom's
+pub num-stored : {l : List ℕ} {p : ℕ} {a : Atom} → AtomAt l p a → (v : ℕ) → put (put l (p + 2) (le 2 32)) (p + 4) (le 4 v) ≡ put l p (encodeAtom (num v))
+unfolding atomKind atomNumber
+num-stored {l} {p} {a} h v =
+    let r : p + 8 ≤ length l = rw (length-encodeAtom a) at (at-room (h .here)) in
+    put-put l (le 2 32) (le 4 v) (p + 2) (p + 4) (rw (length-le 2 32) (omega arith)) (omega arith)
+    ∙ store-part (h .here) (le 2 8) (le 2 (atomKind a) ++ le 4 (atomNumber a)) [] (le 2 32 ++ le 4 v) (encodeAtom (num v)) (p + 2) (atom-parts a) (atom-parts (num v))
+      (ap (λ (n : ℕ). p + n) (length-le 2 8)) (simp (length-append, length-le))
 
 -- SUBSTITUTION CHANGES NO LENGTH
 
@@ -85,6 +101,28 @@ simple-parts f (predOf a) = record {
   before = encodeSimple-pred a;
   after = encodeSimple-pred (substituteAtom f a);
 }
+
+-- ROWS OF ATOMS
+
+pub row-empty : (l : List ℕ) (p : ℕ) → put l p (encodeAtoms []) ≡ l
+unfolding encodeAtoms
+row-empty l p = put-nil l p
+
+-- the atoms behind the first, once that is stored
+pub onward-row : (f : Substitution) {l : List ℕ} {p : ℕ} {a : Atom} {ys : List Atom} → AtomsAt l p (a ∷ ys) → (l₁ : List ℕ) → l₁ ≡ put l p (encodeAtom (substituteAtom f a))
+    → AtomsAt l₁ (p + 8) ys × (put l₁ (p + 8) (encodeAtoms (map (substituteAtom f) ys)) ≡ put l p (encodeAtoms (map (substituteAtom f) (a ∷ ys))))
+onward-row f {l} {p} {a} {ys} h l₁ e =
+    let v = atoms-first h in
+    let a′ : List ℕ = encodeAtom (substituteAtom f a) in
+    let zs : List Atom = map (substituteAtom f) ys in
+    let la : length (encodeAtom a) ≡ 8 = length-encodeAtom a in
+    let la′ : length a′ ≡ 8 = length-encodeAtom (substituteAtom f a) in
+    let r : p + 8 ≤ length l = rw la at (at-room (v .0 .here)) in
+    (
+      record { here = rw e (at-behind (v .0 .here) (v .1 .here) (omega arith) a′ (la ∙ sym la′)); words = v .1 .words },
+      ap (λ (y : List ℕ). put y (p + 8) (encodeAtoms zs)) e ∙ put-put l a′ (encodeAtoms zs) p (p + 8) (omega arith) r
+      ∙ ap (put l p) (sym (encodeAtoms-cons (substituteAtom f a) zs)),
+    )
 
 -- THE FOUR KINDS
 

@@ -1,2 +1,4 @@
 pub mod CallLaws
 pub mod CallMeaningLaws
+pub mod ValuesLaws
+pub mod AtomSubstitutionLaws

@@ -1,1 +1,2 @@
-// No code yet: the crate is its definitions (specs) and theorems (proofs).
+// The calls on terms, and the inner functions that they share.
+pub mod substitution;

@@ -1,0 +1,73 @@
+// Substitution in place. All variables free in a term stand on one path through it, so one loop meets them with no stack.
+ghost use mathlib.Core.Path.{_≡_};
+ghost use mathlib.Core.List.{List, map};
+ghost use Prim.Native.Nat.{ℕ, _+_, _*_, _<_, _≤_};
+ghost use lib.ListN.{length};
+ghost use Rattle.buffer.specs.Slice.{put};
+ghost use Rattle.record.specs.Term.{encodeAtom, encodeAtoms, encodeTermRecord};
+ghost use Rattle.rules.specs.Store.{wordLimit};
+ghost use Rattle.rules.specs.Substitution.{fromStore, only as onlyOf, substitute, substituteAtom};
+ghost use Rattle.rules.specs.Syntax.{Atom, Term};
+ghost use Rattle.term.specs.Ranged.{RangedAtom, RangedAtoms, RangedTerm};
+ghost use Rattle.term.specs.Values.{substitutionOf};
+
+use buffer::get_u16;
+use buffer::get_u32;
+use buffer::put_u16;
+use buffer::put_u32;
+
+// No value: a variable with this number stays.
+pub const STAYS: u64 = 4294967296;
+
+fn wide64(x: u32) -> u64
+    ensures { λ r. ⌜ (r ≡ x) × (r < wordLimit) ⌝ }
+{
+    x as u64
+}
+
+pub fn only(x: usize, v: u32) -> [u64; 17]
+    requires { ⌜ x < 17 ⌝ }
+    ensures { λ r. ⌜ (length r ≡ 17) × (substitutionOf r ≡ onlyOf x v) ⌝ }
+{
+    let mut values = [STAYS; 17];
+    values[x] = wide64(v);
+    values
+}
+
+pub fn from_store(store: &[u32]) -> [u64; 17]
+    requires { ⌜ length (now store) ≤ 16 ⌝ }
+    ensures { λ r. ⌜ (length r ≡ 17) × (substitutionOf r ≡ fromStore (now (store .entry))) ⌝ }
+{
+    let mut values = [STAYS; 17];
+    let mut i = 0;
+    while i < store.len() {
+        values[i + 1] = wide64(store[i]);
+        i += 1;
+    }
+    values
+}
+
+fn substitute_atom(buf: &mut [u8], at: usize, values: &[u64; 17])
+    requires { ⌜ ((a : Atom) × RangedAtom (now buf) at a) × (length (now values) ≡ 17) ⌝ }
+    ensures { λ _. ⌜ ((a : Atom) → RangedAtom (now (buf .entry)) at a → now (buf .exit) ≡ put (now (buf .entry)) at (encodeAtom (substituteAtom (substitutionOf (now (values .entry))) a))) ⌝ }
+{
+    if get_u16(buf, at + 2) == 33 {
+        let x = get_u32(buf, at + 4) as usize;
+        let v = values[x];
+        if v < STAYS {
+            put_u16(buf, at + 2, 32);
+            put_u32(buf, at + 4, v as u32);
+        }
+    }
+}
+
+fn substitute_atoms(buf: &mut [u8], at: usize, count: usize, values: &[u64; 17])
+    requires { ⌜ ((ys : List Atom) × RangedAtoms (now buf) at count ys) × (length (now values) ≡ 17) ⌝ }
+    ensures { λ _. ⌜ ((ys : List Atom) → RangedAtoms (now (buf .entry)) at count ys → now (buf .exit) ≡ put (now (buf .entry)) at (encodeAtoms (map (substituteAtom (substitutionOf (now (values .entry)))) ys))) ⌝ }
+{
+    let mut i = 0;
+    while i < count {
+        substitute_atom(buf, at + 8 * i, values);
+        i += 1;
+    }
+}
