@@ -63,7 +63,7 @@ num-stored {l} {p} {a} h v =
     let r : p + 8 ≤ length l = rw (length-encodeAtom a) at (at-room (h .here)) in
     put-put l (le 2 32) (le 4 v) (p + 2) (p + 4) (rw (length-le 2 32) (omega arith)) (omega arith)
     ∙ store-part (h .here) (le 2 8) (le 2 (atomKind a) ++ le 4 (atomNumber a)) [] (le 2 32 ++ le 4 v) (encodeAtom (num v)) (p + 2) (atom-parts a) (atom-parts (num v))
-      (ap (λ (n : ℕ). p + n) (length-le 2 8)) (simp (length-append, length-le))
+    (ap (λ (n : ℕ). p + n) (length-le 2 8)) (simp (length-append, length-le))
 
 -- SUBSTITUTION CHANGES NO LENGTH
 
@@ -117,11 +117,10 @@ onward-row f {l} {p} {a} {ys} h l₁ e =
     let zs : List Atom = map (substituteAtom f) ys in
     let la : length (encodeAtom a) ≡ 8 = length-encodeAtom a in
     let la′ : length a′ ≡ 8 = length-encodeAtom (substituteAtom f a) in
-    let r : p + 8 ≤ length l = rw la at (at-room (v .0 .here)) in
-    (
+    let r : p + 8 ≤ length l = rw la at (at-room (v .0 .here)) in (
       record { here = rw e (at-behind (v .0 .here) (v .1 .here) (omega arith) a′ (la ∙ sym la′)); words = v .1 .words },
       ap (λ (y : List ℕ). put y (p + 8) (encodeAtoms zs)) e ∙ put-put l a′ (encodeAtoms zs) p (p + 8) (omega arith) r
-      ∙ ap (put l p) (sym (encodeAtoms-cons (substituteAtom f a) zs)),
+          ∙ ap (put l p) (sym (encodeAtoms-cons (substituteAtom f a) zs)),
     )
 
 -- THE FOUR KINDS
@@ -160,7 +159,7 @@ module _ (f : Substitution) {l : List ℕ} {p k : ℕ} {t : Term} (h : TermAt l 
       record {
         here = v .first-at;
         same = store-part (h .here) hd (encodeTermRecord a) (encodeTermRecord z) (encodeTermRecord (substitute f a)) (encodeTermRecord (substitute f t)) (p + 4) e g
-          (ap (λ (n : ℕ). p + n) (length-recordHead 38 (12 + termSize a + termSize z))) (length-substitute f a);
+            (ap (λ (n : ℕ). p + n) (length-recordHead 38 (12 + termSize a + termSize z))) (length-substitute f a);
       }
 
   -- a let-one: its last term, without its variable, once its atom is stored
@@ -192,8 +191,8 @@ module _ (f : Substitution) {l : List ℕ} {p k : ℕ} {t : Term} (h : TermAt l 
       record {
         here = rw e₁ (term-behind (v .atom .here) (term-index (v .last-at) (omega arith)) (omega arith) a′ (la ∙ sym la′));
         same =
-          ap (λ (y : List ℕ). put y (q + 8) (encodeTermRecord z′)) e₁ ∙ put-put l a′ (encodeTermRecord z′) q (q + 8) (ap (λ (n : ℕ). q + n) la′) r
-          ∙ store-part (h .here) front (a ++ encodeTermRecord z) [] (a′ ++ encodeTermRecord z′) (encodeTermRecord (substitute f t)) q e g i
+            ap (λ (y : List ℕ). put y (q + 8) (encodeTermRecord z′)) e₁ ∙ put-put l a′ (encodeTermRecord z′) q (q + 8) (ap (λ (n : ℕ). q + n) la′) r
+            ∙ store-part (h .here) front (a ++ encodeTermRecord z) [] (a′ ++ encodeTermRecord z′) (encodeTermRecord (substitute f t)) q e g i
             (simp length-append (omega (arith, la, la′, length-substitute (except x f) z)));
       }
 
@@ -223,7 +222,7 @@ module _ (f : Substitution) {l : List ℕ} {p k : ℕ} {t : Term} (h : TermAt l 
       record {
         here = rw e₁ (term-behind (v .count-at .here) (v .start-at) (omega arith) a′ (la ∙ sym la′));
         same =
-          ap (λ (y : List ℕ). put y (p + 16) u′) e₁ ∙ put-put l a′ u′ (p + 8) (p + 16) (omega arith) (omega arith)
-          ∙ store-part (h .here) front (a ++ u) z (a′ ++ u′) (encodeTermRecord (substitute f t)) (p + 8) e g i
+            ap (λ (y : List ℕ). put y (p + 16) u′) e₁ ∙ put-put l a′ u′ (p + 8) (p + 16) (omega arith) (omega arith)
+            ∙ store-part (h .here) front (a ++ u) z (a′ ++ u′) (encodeTermRecord (substitute f t)) (p + 8) e g i
             (simp length-append (omega (arith, la, la′, length-substitute f (tuple ys))));
       }

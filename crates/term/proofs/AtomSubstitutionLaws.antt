@@ -86,8 +86,8 @@ row-first {w} {l} {p} {n} {to} r b = go (r .atoms) (r .here) (r .goal)
       atom = a;
       here = record { here = atoms-first (h .here) .0; range = h .range .0 };
       next = λ l₁ e.
-        let v = onward-row (substitutionOf w) (h .here) l₁ e in
-        record { atoms = ys; here = record { here = v .0; range = h .range .1; count = omega (arith, h .count) }; goal = v .1 ∙ g };
+          let v = onward-row (substitutionOf w) (h .here) l₁ e in
+          record { atoms = ys; here = record { here = v .0; range = h .range .1; count = omega (arith, h .count) }; goal = v .1 ∙ g };
     }
 
 pub row-done : {w l : List ℕ} {p n : ℕ} {to : List ℕ} → Row w l p n to → n ≡ 0 → l ≡ to

@@ -2,3 +2,5 @@ pub mod CallLaws
 pub mod CallMeaningLaws
 pub mod ValuesLaws
 pub mod AtomSubstitutionLaws
+pub mod RangedLaws
+pub mod SubstituteAtLaws

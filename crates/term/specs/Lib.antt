@@ -2,3 +2,4 @@ pub mod Calls
 pub mod CallMeaning
 pub mod Values
 pub mod Ranged
+pub mod BoundAtom

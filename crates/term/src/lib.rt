@@ -1,2 +1,3 @@
 // The calls on terms, and the inner functions that they share.
+pub mod path;
 pub mod substitution;

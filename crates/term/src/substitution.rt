@@ -10,7 +10,10 @@ ghost use Rattle.rules.specs.Substitution.{fromStore, only as onlyOf, substitut
 ghost use Rattle.rules.specs.Syntax.{Atom, Term};
 ghost use Rattle.term.specs.Ranged.{RangedAtom, RangedAtoms, RangedTerm};
 ghost use Rattle.term.specs.Values.{substitutionOf};
-
+use crate::path::LET_ALL;
+use crate::path::LET_ONE;
+use crate::path::TUPLE;
+use crate::path::bound_atom;
 use buffer::get_u16;
 use buffer::get_u32;
 use buffer::put_u16;
@@ -69,5 +72,33 @@ fn substitute_atoms(buf: &mut [u8], at: usize, count: usize, values: &[u64; 17])
     while i < count {
         substitute_atom(buf, at + 8 * i, values);
         i += 1;
+    }
+}
+
+pub fn substitute_at(buf: &mut [u8], at: usize, k: u32, values: [u64; 17])
+    requires { ⌜ ((t : Term) × RangedTerm (now buf) at k t) × (length values ≡ 17) ⌝ }
+    ensures { λ _. ⌜ ((t : Term) → RangedTerm (now (buf .entry)) at k t → now (buf .exit) ≡ put (now (buf .entry)) at (encodeTermRecord (substitute (substitutionOf values) t))) ⌝ }
+{
+    let mut values = values;
+    let mut p = at;
+    loop {
+        match get_u16(buf, p + 2) {
+            TUPLE => {
+                substitute_atoms(buf, p + 4, k as usize, &values);
+                return;
+            }
+            LET_ONE => {
+                let x = get_u32(buf, p + 4) as usize;
+                let atom = bound_atom(buf, p);
+                substitute_atom(buf, atom, &values);
+                values[x] = STAYS;
+                p = atom + 8;
+            }
+            LET_ALL => p += 4,
+            _ => {
+                substitute_atom(buf, p + 8, &values);
+                p += 16;
+            }
+        }
     }
 }

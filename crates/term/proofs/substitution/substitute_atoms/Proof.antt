@@ -54,14 +54,13 @@ loop-less c = search needs
 
 -- src/substitution.rt:69:5
 loop-again : tie.Need-loop-again Inv-loop μ-loop
-loop-again c =
-    (
-      omega arith,
-      c .before .before .substitute-atom .kept .0 ∙ c .before .before .before .before .before .loop .inv .1,
-      λ ys h.
-        let f = row-first (c .before .before .before .before .before .loop .inv .2 ys h) (omega arith) in
-        row-moved (f .next _ (c .before .before .substitute-atom .ensures (f .atom) (f .here))) (omega arith) (omega arith),
-    )
+loop-again c = (
+  omega arith,
+  c .before .before .substitute-atom .kept .0 ∙ c .before .before .before .before .before .loop .inv .1,
+  λ ys h.
+      let f = row-first (c .before .before .before .before .before .loop .inv .2 ys h) (omega arith) in
+      row-moved (f .next _ (c .before .before .substitute-atom .ensures (f .atom) (f .here))) (omega arith) (omega arith),
+)
 
 -- src/substitution.rt:64:1
 same-length : tie.Need-same-length Inv-loop μ-loop
