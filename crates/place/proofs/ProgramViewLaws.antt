@@ -64,7 +64,7 @@ nest-view {l} {p} c r h =
     } in
     let after : BlockAt l (p + (4 + blockSize c)) r = record {
       here = at-part k (hd ++ encodeBlock c) (encodeBlock r) [] (p + (4 + blockSize c)) (simp (append-assoc, append-nil))
-          (ap (λ (y : ℕ). p + y) (simp (length-append, length-recordHead, length-encodeBlock)));
+        (ap (λ (y : ℕ). p + y) (simp (length-append, length-recordHead, length-encodeBlock)));
       words = h .words .1;
       small = omega arith;
     } in
@@ -105,7 +105,7 @@ assign-view {l} {p} x e r h =
       expr-at = expr-at;
       after = record {
         here = at-part k (hd ++ (le 4 x ++ encodeExpr e)) (encodeBlock r) [] (p + 16) (simp (append-assoc, append-nil))
-            (ap (λ (y : ℕ). p + y) (simp (length-append, length-recordHead, length-le, length-encodeLeaf)));
+          (ap (λ (y : ℕ). p + y) (simp (length-append, length-recordHead, length-le, length-encodeLeaf)));
         words = h .words .2;
         small = omega arith;
       };
@@ -124,7 +124,7 @@ loop-view {l} {p} x m c r h =
     let n = leaf-read (boundKind m) (boundNumber m) (p + 10) (p + 12) (at-same bound-at (encodeLeaf-head boundKind boundNumber boundFrom m)) (omega arith) (omega arith) (omega (arith, boundKind-range m)) (h .words .1) in
     let block : BlockAt l (p + 16) (nest c r) = record {
       here = at-part k (hd ++ (le 4 x ++ encodeBound m)) q [] (p + 16) (simp (append-assoc, append-nil))
-          (ap (λ (y : ℕ). p + y) (simp (length-append, length-recordHead, length-le, length-encodeLeaf)));
+        (ap (λ (y : ℕ). p + y) (simp (length-append, length-recordHead, length-le, length-encodeLeaf)));
       words = (h .words .2, h .words .3);
       small = rw (blockSize-nest c r) (omega arith);
     } in

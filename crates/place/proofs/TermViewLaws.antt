@@ -89,7 +89,8 @@ term-room {l} {p} {k} {t} h = rw (length-encodeTermRecord t) at (at-room (h .her
 -- its length and its kind, whatever it is
 pub term-read : {l : List ℕ} {p k : ℕ} {t : Term} → TermAt l p k t → (q : ℕ) → q ≡ p + 2 → (val (part l p 2) ≡ 4 + termSize t) × (val (part l q 2) ≡ kindOfTerm t)
 term-read {l} {p} {k} {t} h q e =
-    let r : At l p (recordHead (kindOfTerm t) (4 + termSize t) ++ termContents t) = at-same (h .here) (encodeTermRecord-head t) in (
+    let r : At l p (recordHead (kindOfTerm t) (4 + termSize t) ++ termContents t) = at-same (h .here) (encodeTermRecord-head t) in
+    (
       length-at (kindOfTerm t) (4 + termSize t) (termContents t) r (h .small),
       rw e (kind-at (kindOfTerm t) (4 + termSize t) (termContents t) r (omega (arith, kindOfTerm-range t))),
     )
@@ -117,7 +118,8 @@ tuple-view {l} {p} {k} ys h =
 of-read : {l : List ℕ} (p kind : ℕ) (a : Atom) → At l (p + 8) (recordHead kind 12 ++ encodeAtom a) → kind < 65536 → AtomWords a
     → (val (part l (p + 10) 2) ≡ kind) × AtomAt l (p + 12) a
 of-read {l} p kind a h b w =
-    let e : p + 8 + 2 ≡ p + 10 = omega arith in (
+    let e : p + 8 + 2 ≡ p + 10 = omega arith in
+    (
       rw e at (kind-at kind 12 (encodeAtom a) h b),
       record { here = at-part h (recordHead kind 12) (encodeAtom a) [] (p + 12) (simp append-nil) (rw (length-recordHead kind 12) (omega arith)); words = w },
     )
@@ -158,7 +160,7 @@ letOne-view {l} {p} {k} x s t h =
       atom = c .1;
       last-at = record {
         here = at-part r (hd ++ (le 4 x ++ encodeSimple s)) (encodeTermRecord t) [] (p + (8 + n)) (simp (append-assoc, append-nil))
-            (ap (λ (y : ℕ). p + y) (simp (length-append, length-recordHead, length-le, length-encodeSimple) (omega arith)));
+          (ap (λ (y : ℕ). p + y) (simp (length-append, length-recordHead, length-le, length-encodeSimple) (omega arith)));
         words = h .words .2;
         small = omega arith;
       };
@@ -189,7 +191,7 @@ letAll-view {l} {p} {k} s t h =
       first-at = first-at;
       last-at = record {
         here = at-part r (hd ++ encodeTermRecord s) (encodeTermRecord t) [] (p + (8 + termSize s)) (simp (append-assoc, append-nil))
-            (ap (λ (y : ℕ). p + y) (simp (length-append, length-encodeTermRecord, lh) (omega arith)));
+          (ap (λ (y : ℕ). p + y) (simp (length-append, length-encodeTermRecord, lh) (omega arith)));
         words = h .words .1;
         small = omega arith;
       };
@@ -214,7 +216,7 @@ rec-view {l} {p} {k} x a ys t h =
     let n = atom-read count-at (p + 10) (p + 12) (omega arith) (omega arith) in
     let start-at : TermAt l (p + 16) k (tuple ys) = record {
       here = at-part r (hd ++ (le 4 x ++ encodeAtom a)) u (encodeTermRecord t) (p + 16) (simp append-assoc)
-          (ap (λ (y : ℕ). p + y) (simp (length-append, length-recordHead, length-le, length-encodeAtom)));
+        (ap (λ (y : ℕ). p + y) (simp (length-append, length-recordHead, length-le, length-encodeAtom)));
       words = (c, h .words .3);
       small = omega arith;
     } in
@@ -239,7 +241,7 @@ rec-view {l} {p} {k} x a ys t h =
       row = record { here = at-index {p = p + 16 + 4} {m = encodeAtoms ys} (s .row .here) (omega arith); words = h .words .3 };
       body-at = record {
         here = at-part r (hd ++ (le 4 x ++ (encodeAtom a ++ u))) (encodeTermRecord t) [] (p + (20 + 8 * k)) (simp (append-assoc, append-nil))
-            (ap (λ (y : ℕ). p + y) (simp (length-append, length-recordHead, length-le, length-encodeAtom, length-encodeTermRecord) (omega arith)));
+          (ap (λ (y : ℕ). p + y) (simp (length-append, length-recordHead, length-le, length-encodeAtom, length-encodeTermRecord) (omega arith)));
         words = h .words .4;
         small = omega arith;
       };
