@@ -2,19 +2,23 @@
 use Prim.Native.Nat.{_+_, _<_, _≤_, ℕ}
 use mathlib.Core.Path.{ap, refl, subst, sym, _∙_, _≡_}
 use mathlib.Core.Bool.{Bool, false, true}
-use mathlib.Core.List.{List}
+use mathlib.Core.List.{List, [], _∷_}
 use borrow.Author.Tests.{le-ltb, lt-ltb, ltb-false, ltb-true}
 use lib.Dec.{ltb}
 use lib.ListN.{length}
 use native.Mathlib.Omega.{arith}
 use Rattle.buffer.specs.LittleEndian.{val}
 use Rattle.buffer.specs.Slice.{part}
+use Rattle.record.specs.Holding.{TermIn}
 use Rattle.record.specs.Term.{simpleSize}
-use Rattle.rules.specs.FreeVariables.{atomOfSimple}
+use Rattle.rules.specs.FreeVariables.{Vars, adding, allVars, atomOfSimple}
 use Rattle.rules.specs.Scope.{AtomWithin, AtomsWithin, SimpleWithin, TermWithin, Within}
-use Rattle.rules.specs.Syntax.{Atom, Simple, Term, letAll, letOne, plain, predOf, rec, succOf, tuple}
+use Rattle.rules.specs.Sound.{SoundAtom, SoundAtoms, SoundSimple, SoundTerm}
+use Rattle.rules.specs.Store.{fitsWord}
+use Rattle.rules.specs.Syntax.{Atom, Simple, Term, letAll, letOne, num, plain, predOf, rec, ref, succOf, tuple}
 use Rattle.place.specs.TermView.{LetAllView, LetOneView, RecView, TupleView, simpleKind}
 use Rattle.place.proofs.TermBytesLaws.{simple-high, simple-low}
+use Rattle.place.proofs.TermRecordLaws.{record-at}
 use Rattle.place.proofs.TermViewLaws.{as-letAll, as-letOne, as-rec, as-tuple, atom-index, atom-view, term-kind, term-room}
 use Rattle.term.specs.BoundAtom.{boundAtom, boundAtomIf}
 use Rattle.term.specs.Ranged.{RangedAtom, RangedAtoms, RangedTerm}
@@ -115,3 +119,29 @@ module _ {l : List ℕ} {p k : ℕ} {t : Term} (h : RangedTerm l p k t) where
 -- with the atom's place as it was read
 pub letOne-atom : {l : List ℕ} {p k : ℕ} {t : Term} (v : RangedLetOne l p k t) (q : ℕ) → q ≡ boundAtom l p → RangedAtom l q (atomOfSimple (v .view .bound))
 letOne-atom {l} v q e = subst (λ (n : ℕ). RangedAtom l n (atomOfSimple (v .view .bound))) (sym e) (v .atom)
+
+-- A RECORD IN A BUFFER
+
+-- the variables of a sound term of few variables
+atom-ranged : (ok : ℕ → Bool) (k : ℕ) (S : Vars) (a : Atom) → k ≤ 16 → SoundAtom ok k S a → AtomWithin 16 a
+atom-ranged ok k S (num n) h s = tt
+atom-ranged ok k S (ref x) h s = (s .0 .0, omega (arith, s .0 .1))
+
+atoms-ranged : (ok : ℕ → Bool) (k : ℕ) (S : Vars) (ys : List Atom) → k ≤ 16 → SoundAtoms ok k S ys → AtomsWithin 16 ys
+atoms-ranged ok k S [] h s = tt
+atoms-ranged ok k S (a ∷ ys) h s = (atom-ranged ok k S a h (s .0), atoms-ranged ok k S ys h (s .1))
+
+simple-ranged : (ok : ℕ → Bool) (k : ℕ) (S : Vars) (e : Simple) → k ≤ 16 → SoundSimple ok k S e → SimpleWithin 16 e
+simple-ranged ok k S (plain a) h s = atom-ranged ok k S a h s
+simple-ranged ok k S (succOf a) h s = atom-ranged ok k S a h s
+simple-ranged ok k S (predOf a) h s = atom-ranged ok k S a h s
+
+pub sound-ranged : (ok : ℕ → Bool) (k : ℕ) (S : Vars) (t : Term) → k ≤ 16 → SoundTerm ok k S t → TermWithin 16 t
+sound-ranged ok k S (tuple ys) h s = atoms-ranged ok k S ys h (s .1)
+sound-ranged ok k S (letOne x e t) h s = ((s .0 .0, omega (arith, s .0 .1)), simple-ranged ok k S e h (s .1), sound-ranged ok k (adding x S) t h (s .2))
+sound-ranged ok k S (letAll t u) h s = (sound-ranged ok k S t h (s .0), sound-ranged ok k allVars u h (s .1))
+sound-ranged ok k S (rec x a ys t) h s =
+    ((s .0 .0, omega (arith, s .0 .1)), atom-ranged ok k S a h (s .1), atoms-ranged ok k S ys h (s .3), sound-ranged ok k allVars t h (s .4))
+
+pub record-ranged : {S : Vars} {k : ℕ} {t : Term} {buf : List ℕ} {used : ℕ} → TermIn S k t buf used → length buf ≤ 16384 → RangedTerm buf 8 k t
+record-ranged {S} {k} {t} h l = record { here = record-at h l; range = sound-ranged fitsWord k S t (h .k-high) (h .sound) }

@@ -6,6 +6,9 @@ ghost use lib.ListN.{length};
 ghost use Rattle.term.specs.BoundAtom.{boundAtom};
 use buffer::get_u16;
 
+// Where a record's contents start.
+pub const CONTENTS: usize = 8;
+
 pub const TUPLE: usize = 36;
 
 pub const LET_ONE: usize = 37;

@@ -4,7 +4,11 @@ ghost use mathlib.Core.List.{List, map};
 ghost use Prim.Native.Nat.{ℕ, _+_, _*_, _<_, _≤_};
 ghost use lib.ListN.{length};
 ghost use Rattle.buffer.specs.Slice.{put};
+ghost use Rattle.record.specs.Answers.{padded};
+ghost use Rattle.record.specs.Header.{encodeTerm};
+ghost use Rattle.record.specs.Holding.{TermIn};
 ghost use Rattle.record.specs.Term.{encodeAtom, encodeAtoms, encodeTermRecord};
+ghost use Rattle.rules.specs.FreeVariables.{allVars};
 ghost use Rattle.rules.specs.Store.{wordLimit};
 ghost use Rattle.rules.specs.Substitution.{fromStore, only as onlyOf, substitute, substituteAtom};
 ghost use Rattle.rules.specs.Syntax.{Atom, Term};
@@ -18,6 +22,8 @@ use buffer::get_u16;
 use buffer::get_u32;
 use buffer::put_u16;
 use buffer::put_u32;
+use buffer::zero;
+use crate::path::CONTENTS;
 
 // No value: a variable with this number stays.
 pub const STAYS: u64 = 4294967296;
@@ -101,4 +107,14 @@ pub fn substitute_at(buf: &mut [u8], at: usize, k: u32, values: [u64; 17])
             }
         }
     }
+}
+
+// The bytes behind the record become zero.
+pub fn substitute_record(buf: &mut [u8], used: usize, k: u32, store: &[u32])
+    requires { ⌜ ((t : Term) × TermIn allVars k t (now buf) used) × (length (now buf) ≤ 16384) × (length (now store) ≡ k) ⌝ }
+    ensures { λ _. ⌜ ((t : Term) → TermIn allVars k t (now (buf .entry)) used → now (buf .exit) ≡ padded (length (now (buf .entry))) (encodeTerm k (substitute (fromStore (now (store .entry))) t))) ⌝ }
+{
+    substitute_at(buf, CONTENTS, k, from_store(store));
+    let behind = buf.len() - used;
+    zero(buf, used, behind);
 }
