@@ -1,22 +1,23 @@
 -- Substitution of an atom that stands at an index, and of a row of atoms: one law for each way out of the code.
-use Prim.Native.Nat.{_*_, _+_, _-_, _<_, _≤_, ℕ}
+use Prim.Native.Nat.{_+_, _-_, _<_, _≤_, ℕ}
 use mathlib.Core.Path.{ap, refl, subst, sym, _∙_, _≡_}
-use mathlib.Core.List.{_++_, List, [], append-assoc, append-nil, map, _∷_}
+use mathlib.Core.List.{List, [], map, _∷_}
 use mathlib.Core.Option.{none, some}
 use lib.ListN.{getD, length}
 use native.Mathlib.Omega.{arith}
 use Rattle.buffer.specs.LittleEndian.{le, val}
 use Rattle.buffer.specs.Slice.{part, put}
-use Rattle.record.specs.Term.{atomKind, encodeAtom, encodeAtoms}
-use Rattle.rules.specs.Scope.{AtomWithin, AtomsWithin}
+use Rattle.record.specs.Term.{encodeAtom, encodeAtoms}
+use Rattle.rules.specs.Scope.{AtomWithin}
 use Rattle.rules.specs.Store.{wordLimit}
 use Rattle.rules.specs.Substitution.{Substitution, orRef, substituteAtom}
 use Rattle.rules.specs.Syntax.{Atom, num, ref}
 use Rattle.place.proofs.AtLaws.{put-same}
 use Rattle.place.proofs.TermSubstitutionLaws.{num-stored, onward-row, row-empty}
-use Rattle.place.proofs.TermViewLaws.{as-num, as-ref, atom-kind, atom-view, atoms-first, atoms-room}
+use Rattle.place.proofs.TermViewLaws.{as-num, as-ref, atom-kind, atom-view}
 use Rattle.term.specs.Ranged.{RangedAtom, RangedAtoms}
 use Rattle.term.specs.Values.{substitutionOf}
+use Rattle.term.proofs.RangedLaws.{Row, ranged-first}
 use Rattle.term.proofs.ValuesLaws.{value-none, value-some}
 
 -- ONE ATOM
@@ -65,43 +66,38 @@ module _ {l : List ℕ} {p : ℕ} {a : Atom} (h : RangedAtom l p a) where
 
 -- A ROW OF ATOMS
 
--- What is left to do of a row: n atoms stand at p, and storing their substitution there gives `to`.
-pub record Row (w l : List ℕ) (p n : ℕ) (to : List ℕ) : Type 0 where
-  pub atoms : List Atom
-  pub here : RangedAtoms l p n atoms
-  pub goal : put l p (encodeAtoms (map (substituteAtom (substitutionOf w)) atoms)) ≡ to
+-- What is left to do of a row: storing the substitution of its atoms where they stand gives `to`.
+abbrev pub SubstituteRow : List ℕ → List ℕ → List ℕ → ℕ → ℕ → Type 0
+SubstituteRow w l to = Row l (λ p ys. put l p (encodeAtoms (map (substituteAtom (substitutionOf w)) ys)) ≡ to)
 
 -- Its first atom, and what is left once that is stored.
-pub record First (w l : List ℕ) (p n : ℕ) (to : List ℕ) : Type 0 where
+pub record SubstituteFirst (w l to : List ℕ) (p n : ℕ) : Type 0 where
   pub atom : Atom
   pub here : RangedAtom l p atom
-  pub next : (l₁ : List ℕ) → l₁ ≡ put l p (encodeAtom (substituteAtom (substitutionOf w) atom)) → Row w l₁ (p + 8) (n - 1) to
+  pub next : (l₁ : List ℕ) → l₁ ≡ put l p (encodeAtom (substituteAtom (substitutionOf w) atom)) → SubstituteRow w l₁ to (p + 8) (n - 1)
 
-pub row-first : {w l : List ℕ} {p n : ℕ} {to : List ℕ} → Row w l p n to → 0 < n → First w l p n to
-row-first {w} {l} {p} {n} {to} r b = go (r .atoms) (r .here) (r .goal)
-  where
-    go : (ys : List Atom) → RangedAtoms l p n ys → put l p (encodeAtoms (map (substituteAtom (substitutionOf w)) ys)) ≡ to → First w l p n to
-    go [] h g = absurd (omega (arith, h .count))
-    go (a ∷ ys) h g = record {
-      atom = a;
-      here = record { here = atoms-first (h .here) .0; range = h .range .0 };
-      next = λ l₁ e.
-          let v = onward-row (substitutionOf w) (h .here) l₁ e in
-          record { atoms = ys; here = record { here = v .0; range = h .range .1; count = omega (arith, h .count) }; goal = v .1 ∙ g };
-    }
+pub row-begin : (w : List ℕ) {l : List ℕ} {p n : ℕ} {ys : List Atom} → RangedAtoms l p n ys → SubstituteRow w l (put l p (encodeAtoms (map (substituteAtom (substitutionOf w)) ys))) p n
+row-begin w {ys = ys} h = record { atoms = ys; here = h; goal = refl }
 
-pub row-done : {w l : List ℕ} {p n : ℕ} {to : List ℕ} → Row w l p n to → n ≡ 0 → l ≡ to
-row-done {w} {l} {p} {n} {to} r e = go (r .atoms) (r .here) (r .goal)
-  where
-    go : (ys : List Atom) → RangedAtoms l p n ys → put l p (encodeAtoms (map (substituteAtom (substitutionOf w)) ys)) ≡ to → l ≡ to
-    go [] h g = sym (row-empty l p) ∙ g
-    go (a ∷ ys) h g = absurd (omega (arith, h .count))
+module _ (w : List ℕ) {l to : List ℕ} {p n : ℕ} (r : SubstituteRow w l to p n) where
+  pub row-first : 0 < n → SubstituteFirst w l to p n
+  row-first b = go (r .atoms) (r .here) (r .goal)
+    where
+      go : (ys : List Atom) → RangedAtoms l p n ys → put l p (encodeAtoms (map (substituteAtom (substitutionOf w)) ys)) ≡ to → SubstituteFirst w l to p n
+      go [] h g = absurd (omega (arith, h .count))
+      go (a ∷ ys) h g =
+          let f = ranged-first h in
+          record {
+            atom = a;
+            here = f .0;
+            next = λ l₁ e.
+              let v = onward-row (substitutionOf w) (h .here) l₁ e in
+              record { atoms = ys; here = record { here = v .0; range = f .1 .range; count = f .1 .count }; goal = v .1 ∙ g };
+          }
 
-pub row-begin : {w l : List ℕ} {p n : ℕ} {ys : List Atom} → RangedAtoms l p n ys → Row w l p n (put l p (encodeAtoms (map (substituteAtom (substitutionOf w)) ys)))
-row-begin {ys = ys} h = record { atoms = ys; here = h; goal = refl }
-
-pub row-moved : {w l : List ℕ} {p q n m : ℕ} {to : List ℕ} → Row w l p n to → p ≡ q → n ≡ m → Row w l q m to
-row-moved {w} {l} {p} {q} {n} {m} {to} r e f = subst (λ (x : ℕ). Row w l x m to) e (subst (λ (x : ℕ). Row w l p x to) f r)
-
-pub row-room : {w l : List ℕ} {p n : ℕ} {to : List ℕ} → Row w l p n to → p + 8 * n ≤ length l
-row-room r = omega (arith, atoms-room (r .here .here), r .here .count)
+  pub row-done : n ≡ 0 → l ≡ to
+  row-done e = go (r .atoms) (r .here) (r .goal)
+    where
+      go : (ys : List Atom) → RangedAtoms l p n ys → put l p (encodeAtoms (map (substituteAtom (substitutionOf w)) ys)) ≡ to → l ≡ to
+      go [] h g = sym (row-empty l p) ∙ g
+      go (a ∷ ys) h g = absurd (omega (arith, h .count))

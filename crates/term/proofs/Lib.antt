@@ -4,3 +4,4 @@ pub mod ValuesLaws
 pub mod AtomSubstitutionLaws
 pub mod RangedLaws
 pub mod SubstituteAtLaws
+pub mod ClosedLaws

@@ -1,5 +1,5 @@
 -- A checked term at an index, by the kind read there: what stands on the path of its free variables.
-use Prim.Native.Nat.{_+_, _<_, _≤_, ℕ}
+use Prim.Native.Nat.{_*_, _+_, _-_, _<_, _≤_, ℕ}
 use mathlib.Core.Path.{ap, refl, subst, sym, _∙_, _≡_}
 use mathlib.Core.Bool.{Bool, false, true}
 use mathlib.Core.List.{List, [], _∷_}
@@ -19,7 +19,7 @@ use Rattle.rules.specs.Syntax.{Atom, Simple, Term, letAll, letOne, num, plain, 
 use Rattle.place.specs.TermView.{LetAllView, LetOneView, RecView, TupleView, simpleKind}
 use Rattle.place.proofs.TermBytesLaws.{simple-high, simple-low}
 use Rattle.place.proofs.TermRecordLaws.{record-at}
-use Rattle.place.proofs.TermViewLaws.{as-letAll, as-letOne, as-rec, as-tuple, atom-index, atom-view, term-kind, term-room}
+use Rattle.place.proofs.TermViewLaws.{as-letAll, as-letOne, as-rec, as-tuple, atom-index, atom-view, atoms-first, atoms-room, term-kind, term-room}
 use Rattle.term.specs.BoundAtom.{boundAtom, boundAtomIf}
 use Rattle.term.specs.Ranged.{RangedAtom, RangedAtoms, RangedTerm}
 
@@ -50,6 +50,26 @@ simple-within : (s : Simple) → SimpleWithin 16 s → AtomWithin 16 (atomOfSimp
 simple-within (plain a) h = h
 simple-within (succOf a) h = h
 simple-within (predOf a) h = h
+
+-- ROWS OF ATOMS
+
+-- n atoms stand at p, of which something is to be shown.
+pub record Row (l : List ℕ) (Goal : ℕ → List Atom → Type 0) (p n : ℕ) : Type 0 where
+  pub atoms : List Atom
+  pub here : RangedAtoms l p n atoms
+  pub goal : Goal p atoms
+
+pub row-moved : {l : List ℕ} {Goal : ℕ → List Atom → Type 0} {p q n m : ℕ} → Row l Goal p n → p ≡ q → n ≡ m → Row l Goal q m
+row-moved {l} {Goal} {p} {q} {n} {m} r e f = subst (λ (x : ℕ). Row l Goal x m) e (subst (λ (x : ℕ). Row l Goal p x) f r)
+
+pub row-room : {l : List ℕ} {Goal : ℕ → List Atom → Type 0} {p n : ℕ} → Row l Goal p n → p + 8 * n ≤ length l
+row-room r = omega (arith, atoms-room (r .here .here), r .here .count)
+
+-- the first of them, and the others
+pub ranged-first : {l : List ℕ} {p n : ℕ} {a : Atom} {ys : List Atom} → RangedAtoms l p n (a ∷ ys) → RangedAtom l p a × RangedAtoms l (p + 8) (n - 1) ys
+ranged-first h =
+    let f = atoms-first (h .here) in
+    (record { here = f .0; range = h .range .0 }, record { here = f .1; range = h .range .1; count = omega (arith, h .count) })
 
 -- THE FOUR KINDS
 

@@ -3,3 +3,4 @@ pub mod CallMeaning
 pub mod Values
 pub mod Ranged
 pub mod BoundAtom
+pub mod Marks

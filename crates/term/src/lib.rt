@@ -1,3 +1,4 @@
 // The calls on terms, and the inner functions that they share.
+pub mod closed;
 pub mod path;
 pub mod substitution;

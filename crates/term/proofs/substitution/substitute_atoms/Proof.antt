@@ -14,20 +14,21 @@ use Rattle.rules.specs.Substitution.{substituteAtom}
 use Rattle.rules.specs.Syntax.{Atom}
 use Rattle.term.specs.Ranged.{RangedAtoms}
 use Rattle.term.specs.Values.{substitutionOf}
-use Rattle.term.proofs.AtomSubstitutionLaws.{Row, row-begin, row-done, row-first, row-moved, row-room}
+use Rattle.term.proofs.AtomSubstitutionLaws.{SubstituteRow, row-begin, row-done, row-first}
 use borrow.Author.Needs.{needs}
+use Rattle.term.proofs.RangedLaws.{row-moved, row-room}
 
 abbrev Inv-loop : tie.InvT-loop
 Inv-loop buf₀ at count values i₀ buf i =
     (i ≤ count) × (length buf ≡ length buf₀)
-    × ((ys : List Atom) → RangedAtoms buf₀ at count ys → Row values buf (at + 8 * i) (count - i) (put buf₀ at (encodeAtoms (map (substituteAtom (substitutionOf values)) ys))))
+    × ((ys : List Atom) → RangedAtoms buf₀ at count ys → SubstituteRow values buf (put buf₀ at (encodeAtoms (map (substituteAtom (substitutionOf values)) ys))) (at + 8 * i) (count - i))
 
 abbrev μ-loop : tie.MeasureT-loop
 μ-loop buf₀ at count values i₀ buf i = count - i
 
 -- src/substitution.rt:69:5
 loop-holds : tie.Need-loop-holds Inv-loop μ-loop
-loop-holds c = (omega arith, refl, λ ys h. row-moved (row-begin h) (omega arith) (omega arith))
+loop-holds c = (omega arith, refl, λ ys h. row-moved (row-begin _ h) (omega arith) (omega arith))
 
 -- src/substitution.rt:70:35
 mul-substitute-atom : tie.Need-mul-substitute-atom Inv-loop μ-loop
@@ -42,7 +43,7 @@ add-substitute-atom c =
 -- src/substitution.rt:70:9
 substitute-atom-requires : tie.Need-substitute-atom-requires Inv-loop μ-loop
 substitute-atom-requires c κs =
-    let f = row-first (c .before .before .loop .inv .2 (c .before .before .before .before .pre .0 .0) (c .before .before .before .before .pre .0 .1)) (omega arith) in ((f .atom, f .here), c .before .before .before .before .pre .1)
+    let f = row-first (c .before .before .before .before .args .values .now) (c .before .before .loop .inv .2 (c .before .before .before .before .pre .0 .0) (c .before .before .before .before .pre .0 .1)) (omega arith) in ((f .atom, f .here), c .before .before .before .before .pre .1)
 
 -- src/substitution.rt:71:9
 add-i : tie.Need-add-i Inv-loop μ-loop
@@ -54,13 +55,14 @@ loop-less c = search needs
 
 -- src/substitution.rt:69:5
 loop-again : tie.Need-loop-again Inv-loop μ-loop
-loop-again c = (
-  omega arith,
-  c .before .before .substitute-atom .kept .0 ∙ c .before .before .before .before .before .loop .inv .1,
-  λ ys h.
-      let f = row-first (c .before .before .before .before .before .loop .inv .2 ys h) (omega arith) in
-      row-moved (f .next _ (c .before .before .substitute-atom .ensures (f .atom) (f .here))) (omega arith) (omega arith),
-)
+loop-again c =
+    (
+      omega arith,
+      c .before .before .substitute-atom .kept .0 ∙ c .before .before .before .before .before .loop .inv .1,
+      λ ys h.
+        let f = row-first (c .before .before .before .before .before .before .before .args .values .now) (c .before .before .before .before .before .loop .inv .2 ys h) (omega arith) in
+        row-moved (f .next _ (c .before .before .substitute-atom .ensures (f .atom) (f .here))) (omega arith) (omega arith),
+    )
 
 -- src/substitution.rt:64:1
 same-length : tie.Need-same-length Inv-loop μ-loop
@@ -68,7 +70,7 @@ same-length c = c .before .loop .inv .1
 
 -- src/substitution.rt:64:1
 returns : tie.Need-returns Inv-loop μ-loop
-returns c = λ ys h. row-done (c .before .loop .inv .2 ys h) (omega arith)
+returns c = λ ys h. row-done (c .before .before .before .args .values .now) (c .before .loop .inv .2 ys h) (omega arith)
 
 pub substitute-atoms-spec : {M : Type 1} → statement M
 substitute-atoms-spec =
