@@ -20,8 +20,31 @@ use Rattle.term.proofs.RangedLaws.{RangedLetAll, RangedLetOne, RangedRe
 
 -- MARKS
 
-pub unmarked : List Bool
+unfoldable pub unmarked : List Bool
 unmarked = replicate 17 false
+
+pub length-unmarked : length unmarked ≡ 17
+unfolding unmarked
+length-unmarked = length-replicate 17 false
+
+getD-unmarked : (n i : ℕ) → getD (replicate n false) i false ≡ false
+getD-unmarked zero i = refl
+getD-unmarked (suc n) zero = refl
+getD-unmarked (suc n) (suc i) = getD-unmarked n i
+
+marked-none : marked unmarked ≡ noVars
+unfolding marked unmarked
+marked-none = fun-ext λ y. getD-unmarked 17 y
+
+adding-at : (m : List Bool) (x : ℕ) → x < length m → (y : ℕ) (b : Bool) → eqb y x ≡ b → marked (set m x true) y ≡ cond b true (marked m y)
+unfolding marked
+adding-at m x h y true e = rw (eqb-true y x e) (getD-set-same m x true false h)
+adding-at m x h y false e = getD-set-other m x y true false (eqb-false y x e)
+
+-- one mark more
+marked-adding : (m : List Bool) (x : ℕ) → x < length m → marked (set m x true) ≡ adding x (marked m)
+unfolding adding
+marked-adding m x h = fun-ext λ y. adding-at m x h y (eqb y x) refl
 
 -- ONE ATOM
 
@@ -77,3 +100,73 @@ module _ (S : Vars) {l : List ℕ} {b : Bool} {p n : ℕ} (r : ClosedRow S l b p
       go : (ys : List Atom) → RangedAtoms l p n ys → closedAtoms S ys ≡ b → true ≡ b
       go [] k g = g
       go (a ∷ ys) k g = absurd (omega (arith, k .count))
+
+-- A TERM
+
+closed-simple : (S : Vars) (e : Simple) → closedSimple S e ≡ closedAtom S (atomOfSimple e)
+unfolding closedSimple
+closed-simple S (plain a) = refl
+closed-simple S (succOf a) = refl
+closed-simple S (predOf a) = refl
+
+-- A term stands at p, and the test of it comes to b.
+pub record ClosedTodo (m : List Bool) (l : List ℕ) (b : Bool) (p k : ℕ) : Type 0 where
+  pub term : Term
+  pub here : RangedTerm l p k term
+  pub goal : closedIn (marked m) term ≡ b
+
+pub todo-begin : {l : List ℕ} {p k : ℕ} {t : Term} → RangedTerm l p k t → ClosedTodo unmarked l (closed t) p k
+unfolding closed
+todo-begin {t = t} h = record { term = t; here = h; goal = ap (λ (S : Vars). closedIn S t) marked-none }
+
+module _ {m : List Bool} {l : List ℕ} {b : Bool} {p k : ℕ} (s : ClosedTodo m l b p k) where
+  pub tuple-goal : (v : RangedTuple l p k (s .term)) → closedAtoms (marked m) (v .view .atoms) ≡ b
+  unfolding closedIn
+  tuple-goal v = ap (closedIn (marked m)) (sym (v .view .is)) ∙ s .goal
+
+  pub letAll-next : RangedLetAll l p k (s .term) → ClosedTodo m l b (p + 4) k
+  unfolding closedIn
+  letAll-next v = record {
+    term = v .view .first;
+    here = record { here = v .view .first-at; range = v .first };
+    goal = ap (closedIn (marked m)) (sym (v .view .is)) ∙ s .goal;
+  }
+
+  -- what the test of the count, or of a let-one's atom, came to
+  module _ (v : RangedRec l p k (s .term)) (r : Bool) (e : r ≡ closedAtom (marked m) (v .view .count)) where
+    rec-goal : (r && closedAtoms (marked m) (v .view .start)) ≡ b
+    unfolding closedIn
+    rec-goal = ap (λ (y : Bool). y && closedAtoms (marked m) (v .view .start)) e ∙ ap (closedIn (marked m)) (sym (v .view .is)) ∙ s .goal
+
+    pub rec-found : r ≡ false → false ≡ b
+    rec-found f = and-found r (closedAtoms (marked m) (v .view .start)) b rec-goal f
+
+    pub rec-next : r ≡ true → ClosedTodo m l b (p + 16) k
+    unfolding closedIn
+    rec-next f = record {
+      term = tuple (v .view .start);
+      here = record { here = v .view .start-at; range = v .start };
+      goal = and-next r (closedAtoms (marked m) (v .view .start)) b rec-goal f;
+    }
+
+  module _ (v : RangedLetOne l p k (s .term)) (q : ℕ) (eq : q ≡ boundAtom l p) (r : Bool) (e : (a : Atom) → RangedAtom l q a → r ≡ closedAtom (marked m) a) where
+    letOne-goal : (r && closedIn (adding (v .view .variable) (marked m)) (v .view .last)) ≡ b
+    unfolding closedIn
+    letOne-goal =
+        ap (λ (y : Bool). y && closedIn (adding (v .view .variable) (marked m)) (v .view .last))
+        (e (atomOfSimple (v .view .bound)) (letOne-atom v q eq) ∙ sym (closed-simple (marked m) (v .view .bound)))
+        ∙ ap (closedIn (marked m)) (sym (v .view .is)) ∙ s .goal
+
+    pub letOne-found : r ≡ false → false ≡ b
+    letOne-found f = and-found r (closedIn (adding (v .view .variable) (marked m)) (v .view .last)) b letOne-goal f
+
+    pub letOne-next : length m ≡ 17 → (x : ℕ) → x ≡ val (part l (p + 4) 4) → r ≡ true → ClosedTodo (set m x true) l b (q + 8) k
+    letOne-next long x ex f =
+        let y : x ≡ v .view .variable = ex ∙ v .view .variable-read in
+        let g : marked (set m x true) ≡ adding (v .view .variable) (marked m) =
+        ap (λ (n : ℕ). marked (set m n true)) y ∙ marked-adding m (v .view .variable) (omega (arith, v .low)) in
+        record {
+          term = v .view .last;
+          here = record { here = term-index (v .view .last-at) (omega (arith, v .place)); range = v .last };
+          goal = ap (λ (S : Vars). closedIn S (v .view .last)) g ∙ and-next r (closedIn (adding (v .view .variable) (marked m)) (v .view .last)) b letOne-goal f;
+        }

@@ -41,3 +41,39 @@ fn closed_atoms(buf: &[u8], at: usize, count: usize, bound: &[bool; 17]) -> bool
     }
     true
 }
+
+pub fn closed_at(buf: &[u8], at: usize, k: u32) -> bool
+    requires { ⌜ ((t : Term) × RangedTerm (now buf) at k t) ⌝ }
+    ensures { λ r. ⌜ ((t : Term) → RangedTerm (now (buf .entry)) at k t → r ≡ closed t) ⌝ }
+{
+    let mut bound = [false; 17];
+    let mut p = at;
+    loop {
+        match get_u16(buf, p + 2) {
+            TUPLE => return closed_atoms(buf, p + 4, k as usize, &bound),
+            LET_ONE => {
+                let x = get_u32(buf, p + 4) as usize;
+                let atom = bound_atom(buf, p);
+                if !closed_atom(buf, atom, &bound) {
+                    return false;
+                }
+                bound[x] = true;
+                p = atom + 8;
+            }
+            LET_ALL => p += 4,
+            _ => {
+                if !closed_atom(buf, p + 8, &bound) {
+                    return false;
+                }
+                p += 16;
+            }
+        }
+    }
+}
+
+pub fn is_closed(buf: &[u8], used: usize, k: u32) -> bool
+    requires { ⌜ ((t : Term) × TermIn allVars k t (now buf) used) × (length (now buf) ≤ 16384) ⌝ }
+    ensures { λ r. ⌜ ((t : Term) → TermIn allVars k t (now (buf .entry)) used → r ≡ closed t) ⌝ }
+{
+    closed_at(buf, CONTENTS, k)
+}
