@@ -7,3 +7,4 @@ pub mod TermBytesLaws
 pub mod TermViewLaws
 pub mod TermSubstitutionLaws
 pub mod TermRecordLaws
+pub mod NumeralsLaws

@@ -5,3 +5,4 @@ pub mod AtomSubstitutionLaws
 pub mod RangedLaws
 pub mod SubstituteAtLaws
 pub mod ClosedLaws
+pub mod NumeralsLaws

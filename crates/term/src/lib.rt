@@ -1,4 +1,5 @@
 // The calls on terms, and the inner functions that they share.
 pub mod closed;
+pub mod numerals;
 pub mod path;
 pub mod substitution;
