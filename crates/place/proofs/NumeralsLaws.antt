@@ -35,6 +35,10 @@ tuple-row {l} {p} {k} {ys} h =
     let e : v .atoms ≡ ys = cc (v .is) in
     (subst (AtomsAt l (p + 4)) e (v .row), ap length (sym e) ∙ v .count)
 
+-- the row of a tuple of numerals
+pub numerals-row : {l : List ℕ} {p k : ℕ} (vs : List ℕ) → TermAt l p k (tuple (map num vs)) → AtomsAt l (p + 4) (map num vs) × (length vs ≡ k)
+numerals-row vs h = let r = tuple-row h in (r .0, sym (length-map vs num) ∙ r .1)
+
 -- the numeral number i of a row
 number-num : (v : ℕ) → atomNumber (num v) ≡ v
 unfolding atomNumber

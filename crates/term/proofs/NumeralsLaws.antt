@@ -2,7 +2,7 @@
 use Prim.Native.Nat.{_+_, _<_, _≤_, ℕ}
 use mathlib.Core.Path.{ap, refl, sym, _∙_, _≡_}
 use mathlib.Core.List.{List, [], append-nil, map}
-use lib.ListN.{getD, length, length-map, set}
+use lib.ListN.{getD, length, set}
 use native.Mathlib.Omega.{arith}
 use Rattle.buffer.specs.Slice.{part, put}
 use Rattle.record.specs.Holding.{TermIn}
@@ -10,12 +10,12 @@ use Rattle.rules.specs.FreeVariables.{Vars}
 use Rattle.rules.specs.Syntax.{num, tuple}
 use Rattle.buffer.proofs.SliceLaws.{copied-next, part-re, put-nil, put-re}
 use Rattle.place.specs.TermView.{AtomsAt}
-use Rattle.place.proofs.NumeralsLaws.{tuple-row}
+use Rattle.place.proofs.NumeralsLaws.{numerals-row}
 use Rattle.place.proofs.TermRecordLaws.{record-at}
 
 pub record-row : {S : Vars} {k : ℕ} (vs : List ℕ) {buf : List ℕ} {used : ℕ} → TermIn S k (tuple (map num vs)) buf used → length buf ≤ 16384
     → AtomsAt buf 12 (map num vs) × (length vs ≡ k)
-record-row vs h l = let r = tuple-row (record-at h l) in (r .0, sym (length-map vs num) ∙ r .1)
+record-row vs h l = numerals-row vs (record-at h l)
 
 -- of the store d, b is what i turns leave
 pub copied-none : (d vs : List ℕ) → d ≡ put d 0 (part vs 0 0)

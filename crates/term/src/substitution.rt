@@ -4,6 +4,7 @@ ghost use mathlib.Core.List.{List, map};
 ghost use Prim.Native.Nat.{ℕ, _+_, _*_, _<_, _≤_};
 ghost use lib.ListN.{length};
 ghost use Rattle.buffer.specs.Slice.{put};
+ghost use Rattle.place.specs.TermView.{TermAt};
 ghost use Rattle.record.specs.Answers.{padded};
 ghost use Rattle.record.specs.Header.{encodeTerm};
 ghost use Rattle.record.specs.Holding.{TermIn};
@@ -11,7 +12,7 @@ ghost use Rattle.record.specs.Term.{encodeAtom, encodeAtoms, encodeTermRecord};
 ghost use Rattle.rules.specs.FreeVariables.{allVars};
 ghost use Rattle.rules.specs.Store.{wordLimit};
 ghost use Rattle.rules.specs.Substitution.{fromStore, only as onlyOf, substitute, substituteAtom};
-ghost use Rattle.rules.specs.Syntax.{Atom, Term};
+ghost use Rattle.rules.specs.Syntax.{Atom, Term, num, tuple};
 ghost use Rattle.term.specs.Ranged.{RangedAtom, RangedAtoms, RangedTerm};
 ghost use Rattle.term.specs.Values.{substitutionOf};
 use crate::path::LET_ALL;
@@ -23,6 +24,7 @@ use buffer::get_u32;
 use buffer::put_u16;
 use buffer::put_u32;
 use buffer::zero;
+use crate::numerals::numeral;
 use crate::path::CONTENTS;
 
 // No value: a variable with this number stays.
@@ -51,6 +53,21 @@ pub fn from_store(store: &[u32]) -> [u64; 17]
     let mut i = 0;
     while i < store.len() {
         values[i + 1] = wide64(store[i]);
+        i += 1;
+    }
+    values
+}
+
+// The values are the numerals of the tuple at an index.
+pub fn from_tuple(buf: &[u8], at: usize, k: u32) -> [u64; 17]
+    requires { ⌜ ((vs : List ℕ) × TermAt (now buf) at k (tuple (map num vs))) × (k ≤ 16) ⌝ }
+    ensures { λ r. ⌜ (length r ≡ 17) × ((vs : List ℕ) → TermAt (now (buf .entry)) at k (tuple (map num vs)) → substitutionOf r ≡ fromStore vs) ⌝ }
+{
+    let mut values = [STAYS; 17];
+    let count = k as usize;
+    let mut i = 0;
+    while i < count {
+        values[i + 1] = wide64(numeral(buf, at + 4, i));
         i += 1;
     }
     values
