@@ -4,13 +4,12 @@ use mathlib.Core.Path.{ap, refl, subst, sym, _∙_, _≡_}
 use mathlib.Core.List.{List, map}
 use lib.Dec.{eqb}
 use lib.ListN.{List·getD-map, getD, length, length-map}
-use native.Mathlib.Omega.{arith}
 use Rattle.buffer.specs.LittleEndian.{val}
 use Rattle.buffer.specs.Slice.{part}
 use Rattle.rules.specs.Syntax.{Atom, Term, letAll, letOne, num, rec, tuple}
 use Rattle.record.specs.Rows.{finishedTerm}
 use Rattle.record.specs.Term.{atomNumber, kindOfTerm}
-use Rattle.place.specs.TermView.{AtomAt, AtomsAt, TermAt}
+use Rattle.place.specs.TermView.{AtomsAt, TermAt}
 use Rattle.place.proofs.TermViewLaws.{as-tuple, atom-view, atoms-nth, term-read}
 
 -- a tuple is finished, and nothing else

@@ -9,7 +9,7 @@ use Rattle.buffer.specs.LittleEndian.{le}
 use Rattle.buffer.specs.Slice.{put}
 use Rattle.rules.specs.FreeVariables.{atomOfSimple}
 use Rattle.rules.specs.Substitution.{Substitution, except, substitute, substituteAtom, substituteSimple}
-use Rattle.rules.specs.Syntax.{Atom, Simple, Term, letAll, letOne, num, plain, predOf, rec, succOf, tuple}
+use Rattle.rules.specs.Syntax.{Atom, Simple, Term, num, plain, predOf, succOf, tuple}
 use Rattle.record.specs.Term.{atomFrom, atomKind, atomNumber, encodeAtom, encodeAtoms, encodeSimple, encodeTermRecord, simpleSize, termSize}
 use Rattle.buffer.proofs.LittleEndianLaws.{length-le}
 use Rattle.buffer.proofs.SliceLaws.{put-nil, put-put}

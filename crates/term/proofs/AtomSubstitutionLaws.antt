@@ -91,8 +91,8 @@ module _ (w : List ℕ) {l to : List ℕ} {p n : ℕ} (r : SubstituteRow w l to 
             atom = a;
             here = f .0;
             next = λ l₁ e.
-              let v = onward-row (substitutionOf w) (h .here) l₁ e in
-              record { atoms = ys; here = record { here = v .0; range = f .1 .range; count = f .1 .count }; goal = v .1 ∙ g };
+                let v = onward-row (substitutionOf w) (h .here) l₁ e in
+                record { atoms = ys; here = record { here = v .0; range = f .1 .range; count = f .1 .count }; goal = v .1 ∙ g };
           }
 
   pub row-done : n ≡ 0 → l ≡ to

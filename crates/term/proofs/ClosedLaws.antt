@@ -1,6 +1,6 @@
 -- The test that no variable is free: what is left to test at the present place is what was to test at first.
-use Prim.Native.Nat.{_*_, _+_, _-_, _<_, _≤_, suc, zero, ℕ}
-use mathlib.Core.Path.{ap, fun-ext, refl, subst, sym, _∙_, _≡_}
+use Prim.Native.Nat.{_+_, _-_, _<_, suc, zero, ℕ}
+use mathlib.Core.Path.{ap, fun-ext, refl, sym, _∙_, _≡_}
 use mathlib.Core.Bool.{_&&_, Bool, cond, false, true}
 use mathlib.Core.List.{List, [], _∷_}
 use borrow.Author.Tests.{eqb-false, eqb-true}
@@ -11,7 +11,7 @@ use native.Mathlib.Omega.{arith}
 use Rattle.buffer.specs.LittleEndian.{val}
 use Rattle.buffer.specs.Slice.{part}
 use Rattle.rules.specs.FreeVariables.{Vars, adding, atomOfSimple, closed, closedAtom, closedAtoms, closedIn, closedSimple, noVars}
-use Rattle.rules.specs.Syntax.{Atom, Simple, Term, letAll, letOne, num, plain, predOf, rec, ref, succOf, tuple}
+use Rattle.rules.specs.Syntax.{Atom, Simple, Term, plain, predOf, succOf, tuple}
 use Rattle.place.proofs.TermViewLaws.{as-num, as-ref, atom-kind, term-index}
 use Rattle.term.specs.BoundAtom.{boundAtom}
 use Rattle.term.specs.Marks.{marked}

@@ -12,11 +12,11 @@ use Rattle.buffer.specs.Slice.{part}
 use Rattle.record.specs.Holding.{TermIn}
 use Rattle.record.specs.Term.{simpleSize}
 use Rattle.rules.specs.FreeVariables.{Vars, adding, allVars, atomOfSimple}
-use Rattle.rules.specs.Scope.{AtomWithin, AtomsWithin, SimpleWithin, TermWithin, Within}
+use Rattle.rules.specs.Scope.{AtomWithin, AtomsWithin, SimpleWithin, TermWithin}
 use Rattle.rules.specs.Sound.{SoundAtom, SoundAtoms, SoundSimple, SoundTerm}
 use Rattle.rules.specs.Store.{fitsWord}
 use Rattle.rules.specs.Syntax.{Atom, Simple, Term, letAll, letOne, num, plain, predOf, rec, ref, succOf, tuple}
-use Rattle.place.specs.TermView.{LetAllView, LetOneView, RecView, TupleView, simpleKind}
+use Rattle.place.specs.TermView.{LetAllView, LetOneView, RecView, TupleView}
 use Rattle.place.proofs.TermBytesLaws.{simple-high, simple-low}
 use Rattle.place.proofs.TermRecordLaws.{record-at}
 use Rattle.place.proofs.TermViewLaws.{as-letAll, as-letOne, as-rec, as-tuple, atom-index, atom-view, atoms-first, atoms-room, term-kind, term-room}

@@ -1,5 +1,5 @@
 -- Substitution along the path of free variables: what is left to do at the present place is what was to do at first.
-use Prim.Native.Nat.{_+_, _<_, _≤_, ℕ}
+use Prim.Native.Nat.{_+_, ℕ}
 use mathlib.Core.Path.{ap, refl, subst, sym, _∙_, _≡_}
 use mathlib.Core.List.{List, map}
 use lib.ListN.{length, set}
@@ -11,9 +11,9 @@ use Rattle.rules.specs.FreeVariables.{atomOfSimple}
 use Rattle.rules.specs.Store.{wordLimit}
 use Rattle.rules.specs.Substitution.{Substitution, except, substitute, substituteAtom}
 use Rattle.rules.specs.Syntax.{Atom, Term, tuple}
-use Rattle.place.proofs.TermSubstitutionLaws.{Onward, onward-letAll, onward-letOne, onward-rec, onward-tuple}
+use Rattle.place.proofs.TermSubstitutionLaws.{onward-letAll, onward-letOne, onward-rec, onward-tuple}
 use Rattle.term.specs.BoundAtom.{boundAtom}
-use Rattle.term.specs.Ranged.{RangedAtom, RangedAtoms, RangedTerm}
+use Rattle.term.specs.Ranged.{RangedAtom, RangedTerm}
 use Rattle.term.specs.Values.{substitutionOf}
 use Rattle.term.proofs.RangedLaws.{RangedLetAll, RangedLetOne, RangedRec, RangedTuple, letOne-atom}
 use Rattle.term.proofs.ValuesLaws.{values-except}

@@ -6,7 +6,7 @@ use mathlib.Core.List.{List, [], _∷_}
 use mathlib.Core.Option.{none, some}
 use borrow.Author.Tests.{eqb-false, eqb-true, le-ltb, lt-ltb}
 use lib.Dec.{eqb}
-use lib.ListN.{getD, getElem?, length, length-replicate, length-set, replicate, set, take}
+use lib.ListN.{getD, getElem?, length, length-replicate, replicate, set, take}
 use lib.Seq.{getD-set-other, getD-set-same, take-all}
 use native.Mathlib.Numerals.{add-one}
 use native.Mathlib.Omega.{arith}

@@ -1,5 +1,4 @@
 -- A set of variables as an array of marks.
-use Prim.Native.Nat.{ℕ}
 use mathlib.Core.Bool.{Bool, false}
 use mathlib.Core.List.{List}
 use lib.ListN.{getD}

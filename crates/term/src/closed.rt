@@ -1,4 +1,5 @@
-// The test that no variable is free in a term.
+// The test that no variable is free in a term: along the same path as substitution, with a mark for each variable that a
+// let-one has bound.
 ghost use mathlib.Core.Path.{_≡_};
 ghost use mathlib.Core.List.{List};
 ghost use Prim.Native.Nat.{_≤_};
@@ -8,20 +9,20 @@ ghost use Rattle.rules.specs.FreeVariables.{allVars, closed, closedAtom, closed
 ghost use Rattle.rules.specs.Syntax.{Atom, Term};
 ghost use Rattle.term.specs.Marks.{marked};
 ghost use Rattle.term.specs.Ranged.{RangedAtom, RangedAtoms, RangedTerm};
-
-use buffer::get_u16;
-use buffer::get_u32;
 use crate::path::CONTENTS;
 use crate::path::LET_ALL;
 use crate::path::LET_ONE;
 use crate::path::TUPLE;
+use crate::path::VARIABLE;
 use crate::path::bound_atom;
+use buffer::get_u16;
+use buffer::get_u32;
 
 fn closed_atom(buf: &[u8], at: usize, bound: &[bool; 17]) -> bool
     requires { ⌜ ((a : Atom) × RangedAtom (now buf) at a) ⌝ }
     ensures { λ r. ⌜ ((a : Atom) → RangedAtom (now (buf .entry)) at a → r ≡ closedAtom (marked (now (bound .entry))) a) ⌝ }
 {
-    if get_u16(buf, at + 2) == 33 {
+    if get_u16(buf, at + 2) == VARIABLE {
         let x = get_u32(buf, at + 4) as usize;
         return bound[x];
     }
@@ -61,6 +62,7 @@ pub fn closed_at(buf: &[u8], at: usize, k: u32) -> bool
                 p = atom + 8;
             }
             LET_ALL => p += 4,
+            // A rec: its count, and in the next turn its start tuple.
             _ => {
                 if !closed_atom(buf, p + 8, &bound) {
                     return false;

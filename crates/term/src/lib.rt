@@ -3,3 +3,4 @@ pub mod closed;
 pub mod numerals;
 pub mod path;
 pub mod substitution;
+pub mod values;

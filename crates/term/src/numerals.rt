@@ -8,11 +8,10 @@ ghost use Rattle.record.specs.Holding.{TermIn};
 ghost use Rattle.record.specs.Rows.{finishedTerm};
 ghost use Rattle.rules.specs.FreeVariables.{allVars, noVars};
 ghost use Rattle.rules.specs.Syntax.{Term, num, tuple};
-
-use buffer::get_u16;
-use buffer::get_u32;
 use crate::path::CONTENTS;
 use crate::path::TUPLE;
+use buffer::get_u16;
+use buffer::get_u32;
 
 pub fn is_finished(buf: &[u8], used: usize) -> bool
     requires { ⌜ ((k : ℕ) × ((t : Term) × TermIn allVars k t (now buf) used)) × (length (now buf) ≤ 16384) ⌝ }

@@ -1,12 +1,6 @@
+-- Invariant: the test of the term at p under the present marks comes to what the test of the whole does.
 use Rattle.term.proofs.closed.closed_at.Statement.{statement}
 use Rattle.term.proofs.closed.closed_at.Tie as tie
-use Rattle.term.proofs.closed.closed_at.Reads as reads
-use Rattle.term.proofs.closed.closed_at.Lts as lts
-use Rattle.buffer.proofs.get_u16.Reads as get-u16-reads
-use Rattle.buffer.proofs.get_u32.Reads as get-u32-reads
-use Rattle.term.proofs.closed.closed_atom.Reads as closed-atom-reads
-use Rattle.term.proofs.closed.closed_atoms.Reads as closed-atoms-reads
-use Rattle.term.proofs.path.bound_atom.Reads as bound-atom-reads
 use borrow.Author.Needs.{needs}
 use borrow.Author.Tests.{not-false, not-true}
 use mathlib.Core.Path.{_≡_, sym, _∙_}
@@ -27,33 +21,27 @@ Inv-loop buf at k bound₀ p₀ bound p =
 abbrev μ-loop : tie.MeasureT-loop
 μ-loop buf at k bound₀ p₀ bound p = length buf - p
 
--- src/closed.rt:51:5
 loop-holds : tie.Need-loop-holds Inv-loop μ-loop
 unfolding unmarked
 loop-holds c = (length-unmarked, λ t h. todo-begin h)
 
--- src/closed.rt:52:28
 add-get-u16 : tie.Need-add-get-u16 Inv-loop μ-loop
 add-get-u16 c =
     let r = ranged-room (c .loop .inv .1 (c .before .before .pre .0) (c .before .before .pre .1) .here) in omega arith
 
--- src/closed.rt:52:15
 get-u16-requires : tie.Need-get-u16-requires Inv-loop μ-loop
 get-u16-requires c κs =
     let r = ranged-room (c .loop .inv .1 (c .before .before .pre .0) (c .before .before .pre .1) .here) in omega arith
 
--- src/closed.rt:53:47
 add-closed-atoms : tie.Need-add-closed-atoms Inv-loop μ-loop
 add-closed-atoms c =
     let r = ranged-room (c .before .before .loop .inv .1 (c .before .before .before .before .pre .0) (c .before .before .before .before .pre .1) .here) in omega arith
 
--- src/closed.rt:53:22
 closed-atoms-requires : tie.Need-closed-atoms-requires Inv-loop μ-loop
 closed-atoms-requires c κs =
     let v = ranged-tuple (c .before .before .before .loop .inv .1 (c .before .before .before .before .before .pre .0) (c .before .before .before .before .before .pre .1) .here) (sym (c .before .before .get-u16 .ensures .0) ∙ c .before .match .keys1) in
     (v .view .atoms, v .row)
 
--- src/closed.rt:53:22
 returns : tie.Need-returns Inv-loop μ-loop
 returns c =
     λ t h.
@@ -61,35 +49,29 @@ returns c =
     let v = ranged-tuple (s .here) (sym (c .before .before .before .get-u16 .ensures .0) ∙ c .before .before .match .keys1) in
     c .closed-atoms .ensures (v .view .atoms) (v .row) ∙ tuple-goal s v
 
--- src/closed.rt:55:38
 add-get-u32 : tie.Need-add-get-u32 Inv-loop μ-loop
 add-get-u32 c =
     let v = ranged-letOne (c .before .before .loop .inv .1 (c .before .before .before .before .pre .0) (c .before .before .before .before .pre .1) .here) (sym (c .before .get-u16 .ensures .0) ∙ c .match .keys2) in
     omega (arith, v .high, v .room)
 
--- src/closed.rt:55:25
 get-u32-requires : tie.Need-get-u32-requires Inv-loop μ-loop
 get-u32-requires c κs =
     let v = ranged-letOne (c .before .before .loop .inv .1 (c .before .before .before .before .pre .0) (c .before .before .before .before .pre .1) .here) (sym (c .before .get-u16 .ensures .0) ∙ c .match .keys2) in
     omega (arith, v .high, v .room)
 
--- src/closed.rt:55:25
 cast-x : tie.Need-cast-x Inv-loop μ-loop
 cast-x c = search needs
 
--- src/closed.rt:56:21
 bound-atom-requires : tie.Need-bound-atom-requires Inv-loop μ-loop
 bound-atom-requires c κs =
     let v = ranged-letOne (c .before .before .before .loop .inv .1 (c .before .before .before .before .before .pre .0) (c .before .before .before .before .before .pre .1) .here) (sym (c .before .before .get-u16 .ensures .0) ∙ c .before .match .keys2) in
     omega (arith, v .high, v .room)
 
--- src/closed.rt:57:21
 closed-atom-requires : tie.Need-closed-atom-requires Inv-loop μ-loop
 closed-atom-requires c κs =
     let v = ranged-letOne (c .before .before .before .before .before .loop .inv .1 (c .before .before .before .before .before .before .before .pre .0) (c .before .before .before .before .before .before .before .pre .1) .here) (sym (c .before .before .before .before .get-u16 .ensures .0) ∙ c .before .before .before .match .keys2) in
     (atomOfSimple (v .view .bound), letOne-atom v _ (c .before .bound-atom .ensures))
 
--- src/closed.rt:58:21
 returns-2 : tie.Need-returns-2 Inv-loop μ-loop
 returns-2 c =
     λ t h.
@@ -97,64 +79,53 @@ returns-2 c =
     let v = ranged-letOne (s .here) (sym (c .before .before .before .before .before .before .get-u16 .ensures .0) ∙ c .before .before .before .before .before .match .keys2) in
     letOne-found s v _ (c .before .before .before .bound-atom .ensures) _ (c .before .closed-atom .ensures) (not-true _ (c .if1 .taken))
 
--- src/closed.rt:60:17
 array-write-bound : tie.Need-array-write-bound Inv-loop μ-loop
 array-write-bound c =
     let v = ranged-letOne (c .before .before .before .before .before .before .before .loop .inv .1 (c .before .before .before .before .before .before .before .before .before .pre .0) (c .before .before .before .before .before .before .before .before .before .pre .1) .here) (sym (c .before .before .before .before .before .before .get-u16 .ensures .0) ∙ c .before .before .before .before .before .match .keys2) in
     omega (arith, v .low, v .view .variable-read, c .before .before .before .before .get-u32 .ensures)
 
--- src/closed.rt:61:21
 add-p : tie.Need-add-p Inv-loop μ-loop
 add-p c =
     let v = ranged-letOne (c .before .before .before .before .before .before .before .loop .inv .1 (c .before .before .before .before .before .before .before .before .before .pre .0) (c .before .before .before .before .before .before .before .before .before .pre .1) .here) (sym (c .before .before .before .before .before .before .get-u16 .ensures .0) ∙ c .before .before .before .before .before .match .keys2) in
     omega (arith, v .high, v .room, c .before .before .before .bound-atom .ensures)
 
--- src/closed.rt:51:5
 loop-less : tie.Need-loop-less Inv-loop μ-loop
 loop-less c =
     let v = ranged-letOne (c .before .before .before .before .before .before .before .loop .inv .1 (c .before .before .before .before .before .before .before .before .before .pre .0) (c .before .before .before .before .before .before .before .before .before .pre .1) .here) (sym (c .before .before .before .before .before .before .get-u16 .ensures .0) ∙ c .before .before .before .before .before .match .keys2) in
     omega (arith, v .high, v .room, c .before .before .before .bound-atom .ensures)
 
--- src/closed.rt:51:5
 loop-again : tie.Need-loop-again Inv-loop μ-loop
-loop-again c =
-    (
-      simp length-set (c .before .before .before .before .before .before .before .loop .inv .0),
-      λ t h.
-        let s = c .before .before .before .before .before .before .before .loop .inv .1 t h in
-        let v = ranged-letOne (s .here) (sym (c .before .before .before .before .before .before .get-u16 .ensures .0) ∙ c .before .before .before .before .before .match .keys2) in
-        letOne-next s v _ (c .before .before .before .bound-atom .ensures) _ (c .before .closed-atom .ensures) (c .before .before .before .before .before .before .before .loop .inv .0) _ (c .before .before .before .before .get-u32 .ensures) (not-false _ (c .if1 .left)),
-    )
+loop-again c = (
+  simp length-set (c .before .before .before .before .before .before .before .loop .inv .0),
+  λ t h.
+      let s = c .before .before .before .before .before .before .before .loop .inv .1 t h in
+      let v = ranged-letOne (s .here) (sym (c .before .before .before .before .before .before .get-u16 .ensures .0) ∙ c .before .before .before .before .before .match .keys2) in
+      letOne-next s v _ (c .before .before .before .bound-atom .ensures) _ (c .before .closed-atom .ensures) (c .before .before .before .before .before .before .before .loop .inv .0) _ (c .before .before .before .before .get-u32 .ensures) (not-false _ (c .if1 .left)),
+)
 
--- src/closed.rt:63:24
 add-p-2 : tie.Need-add-p-2 Inv-loop μ-loop
 add-p-2 c =
     let r = ranged-room (c .before .before .loop .inv .1 (c .before .before .before .before .pre .0) (c .before .before .before .before .pre .1) .here) in omega arith
 
--- src/closed.rt:51:5
 loop-less-2 : tie.Need-loop-less-2 Inv-loop μ-loop
 loop-less-2 c =
     let r = ranged-room (c .before .before .loop .inv .1 (c .before .before .before .before .pre .0) (c .before .before .before .before .pre .1) .here) in omega arith
 
--- src/closed.rt:51:5
 loop-again-2 : tie.Need-loop-again-2 Inv-loop μ-loop
 loop-again-2 c =
     (c .before .before .loop .inv .0, λ t h. let s = c .before .before .loop .inv .1 t h in letAll-next s (ranged-letAll (s .here) (sym (c .before .get-u16 .ensures .0) ∙ c .match .keys3)))
 
--- src/closed.rt:65:38
 add-closed-atom : tie.Need-add-closed-atom Inv-loop μ-loop
 add-closed-atom c =
     let v = else-rec (c .before .before .loop .inv .1 (c .before .before .before .before .pre .0) (c .before .before .before .before .pre .1) .here) _ (c .before .get-u16 .ensures .0) (c .match .rest .0 .0 .1) (c .match .rest .0 .1) (c .match .rest .1) in
     let r = atom-room (v .count) in
     omega arith
 
--- src/closed.rt:65:21
 closed-atom-requires-2 : tie.Need-closed-atom-requires-2 Inv-loop μ-loop
 closed-atom-requires-2 c κs =
     let v = else-rec (c .before .before .before .loop .inv .1 (c .before .before .before .before .before .pre .0) (c .before .before .before .before .before .pre .1) .here) _ (c .before .before .get-u16 .ensures .0) (c .before .match .rest .0 .0 .1) (c .before .match .rest .0 .1) (c .before .match .rest .1) in
     (v .view .count, v .count)
 
--- src/closed.rt:66:21
 returns-3 : tie.Need-returns-3 Inv-loop μ-loop
 returns-3 c =
     λ t h.
@@ -162,30 +133,26 @@ returns-3 c =
     let v = else-rec (s .here) _ (c .before .before .before .before .get-u16 .ensures .0) (c .before .before .before .match .rest .0 .0 .1) (c .before .before .before .match .rest .0 .1) (c .before .before .before .match .rest .1) in
     rec-found s v _ (c .before .closed-atom2 .ensures (v .view .count) (v .count)) (not-true _ (c .if2 .taken))
 
--- src/closed.rt:68:17
 add-p-3 : tie.Need-add-p-3 Inv-loop μ-loop
 add-p-3 c =
     let v = else-rec (c .before .before .before .before .before .loop .inv .1 (c .before .before .before .before .before .before .before .pre .0) (c .before .before .before .before .before .before .before .pre .1) .here) _ (c .before .before .before .before .get-u16 .ensures .0) (c .before .before .before .match .rest .0 .0 .1) (c .before .before .before .match .rest .0 .1) (c .before .before .before .match .rest .1) in
     let r = atom-room (v .count) in
     omega arith
 
--- src/closed.rt:51:5
 loop-less-3 : tie.Need-loop-less-3 Inv-loop μ-loop
 loop-less-3 c =
     let v = else-rec (c .before .before .before .before .before .loop .inv .1 (c .before .before .before .before .before .before .before .pre .0) (c .before .before .before .before .before .before .before .pre .1) .here) _ (c .before .before .before .before .get-u16 .ensures .0) (c .before .before .before .match .rest .0 .0 .1) (c .before .before .before .match .rest .0 .1) (c .before .before .before .match .rest .1) in
     let r = atom-room (v .count) in
     omega arith
 
--- src/closed.rt:51:5
 loop-again-3 : tie.Need-loop-again-3 Inv-loop μ-loop
-loop-again-3 c =
-    (
-      c .before .before .before .before .before .loop .inv .0,
-      λ t h.
-        let s = c .before .before .before .before .before .loop .inv .1 t h in
-        let v = else-rec (s .here) _ (c .before .before .before .before .get-u16 .ensures .0) (c .before .before .before .match .rest .0 .0 .1) (c .before .before .before .match .rest .0 .1) (c .before .before .before .match .rest .1) in
-        rec-next s v _ (c .before .closed-atom2 .ensures (v .view .count) (v .count)) (not-false _ (c .if2 .left)),
-    )
+loop-again-3 c = (
+  c .before .before .before .before .before .loop .inv .0,
+  λ t h.
+      let s = c .before .before .before .before .before .loop .inv .1 t h in
+      let v = else-rec (s .here) _ (c .before .before .before .before .get-u16 .ensures .0) (c .before .before .before .match .rest .0 .0 .1) (c .before .before .before .match .rest .0 .1) (c .before .before .before .match .rest .1) in
+      rec-next s v _ (c .before .closed-atom2 .ensures (v .view .count) (v .count)) (not-false _ (c .if2 .left)),
+)
 
 pub closed-at-spec : {M : Type 1} → statement M
 closed-at-spec =

@@ -1,48 +1,37 @@
+-- A numeral is closed, and a variable where it is marked.
 use borrow.Author.Needs.{needs}
 use Rattle.term.proofs.closed.closed_atom.Statement.{statement}
 use Rattle.term.proofs.closed.closed_atom.Tie as tie
-use Rattle.term.proofs.closed.closed_atom.Reads as reads
-use Rattle.term.proofs.closed.closed_atom.Lts as lts
-use Rattle.buffer.proofs.get_u16.Reads as get-u16-reads
-use Rattle.buffer.proofs.get_u32.Reads as get-u32-reads
 use mathlib.Core.Path.{sym, _∙_}
 use native.Mathlib.Omega.{arith}
 use Rattle.term.specs.Marks.{marked}
 use Rattle.term.proofs.AtomSubstitutionLaws.{atom-room, ranged-low}
 use Rattle.term.proofs.ClosedLaws.{closed-num, closed-ref}
 
--- src/closed.rt:24:21
 add-get-u16 : tie.Need-add-get-u16
 add-get-u16 c = let r = atom-room (c .before .pre .1) in omega arith
 
--- src/closed.rt:24:8
 get-u16-requires : tie.Need-get-u16-requires
 get-u16-requires c κs = let r = atom-room (c .before .pre .1) in omega arith
 
--- src/closed.rt:25:30
 add-get-u32 : tie.Need-add-get-u32
 add-get-u32 c = let r = atom-room (c .before .before .before .pre .1) in omega arith
 
--- src/closed.rt:25:17
 get-u32-requires : tie.Need-get-u32-requires
 get-u32-requires c κs = let r = atom-room (c .before .before .before .pre .1) in omega arith
 
--- src/closed.rt:25:17
 cast-x : tie.Need-cast-x
 cast-x c = search needs
 
--- src/closed.rt:26:16
 element-copy-out-result : tie.Need-element-copy-out-result
 element-copy-out-result c =
     omega (arith, c .get-u32 .ensures, ranged-low (c .before .before .before .before .pre .1) (sym (c .before .before .get-u16 .ensures .0) ∙ c .before .if1 .taken))
 
--- src/closed.rt:26:9
 returns : tie.Need-returns
 unfolding marked
 returns c =
     λ a h. closed-ref h (marked (c .before .before .before .before .before .args .bound .now)) _ (c .before .get-u32 .ensures) (sym (c .before .before .before .get-u16 .ensures .0) ∙ c .before .before .if1 .taken)
 
--- src/closed.rt:20:1
 returns-2 : tie.Need-returns-2
 returns-2 c =
     λ a h. closed-num h (marked (c .before .before .before .args .bound .now)) (λ e. c .if1 .left (c .before .get-u16 .ensures .0 ∙ e))

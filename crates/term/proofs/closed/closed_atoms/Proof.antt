@@ -1,8 +1,6 @@
+-- Invariant: the test of what is left of the row comes to what the test of the whole does.
 use Rattle.term.proofs.closed.closed_atoms.Statement.{statement}
 use Rattle.term.proofs.closed.closed_atoms.Tie as tie
-use Rattle.term.proofs.closed.closed_atoms.Reads as reads
-use Rattle.term.proofs.closed.closed_atoms.Lts as lts
-use Rattle.term.proofs.closed.closed_atom.Reads as closed-atom-reads
 use borrow.Author.Needs.{needs}
 use borrow.Author.Tests.{not-false, not-true}
 use mathlib.Core.Path.{sym, _∙_}
@@ -23,51 +21,41 @@ Inv-loop buf at count bound i₀ i =
 abbrev μ-loop : tie.MeasureT-loop
 μ-loop buf at count bound i₀ i = count - i
 
--- src/closed.rt:36:5
 loop-holds : tie.Need-loop-holds Inv-loop μ-loop
 loop-holds c = (omega arith, λ ys h. row-moved (row-begin _ h) (omega arith) (omega arith))
 
--- src/closed.rt:37:35
 mul-closed-atom : tie.Need-mul-closed-atom Inv-loop μ-loop
 mul-closed-atom c =
     let r = row-room (c .before .loop .inv .1 (c .before .before .before .pre .0) (c .before .before .before .pre .1)) in omega arith
 
--- src/closed.rt:37:30
 add-closed-atom : tie.Need-add-closed-atom Inv-loop μ-loop
 add-closed-atom c =
     let r = row-room (c .before .loop .inv .1 (c .before .before .before .pre .0) (c .before .before .before .pre .1)) in omega arith
 
--- src/closed.rt:37:13
 closed-atom-requires : tie.Need-closed-atom-requires Inv-loop μ-loop
 closed-atom-requires c κs =
     let f = row-first (marked (c .before .before .before .args .bound .now)) (c .before .loop .inv .1 (c .before .before .before .pre .0) (c .before .before .before .pre .1)) (omega arith) in (f .atom, f .here)
 
--- src/closed.rt:38:13
 returns : tie.Need-returns Inv-loop μ-loop
 returns c =
     λ ys h.
     let f = row-first (marked (c .before .before .before .before .before .args .bound .now)) (c .before .before .before .loop .inv .1 ys h) (omega arith) in
     f .found (sym (c .before .closed-atom .ensures (f .atom) (f .here)) ∙ not-true _ (c .if1 .taken))
 
--- src/closed.rt:40:9
 add-i : tie.Need-add-i Inv-loop μ-loop
 add-i c = search needs
 
--- src/closed.rt:36:5
 loop-less : tie.Need-loop-less Inv-loop μ-loop
 loop-less c = search needs
 
--- src/closed.rt:36:5
 loop-again : tie.Need-loop-again Inv-loop μ-loop
-loop-again c =
-    (
-      omega arith,
-      λ ys h.
-        let f = row-first (marked (c .before .before .before .before .before .args .bound .now)) (c .before .before .before .loop .inv .1 ys h) (omega arith) in
-        row-moved (f .next (sym (c .before .closed-atom .ensures (f .atom) (f .here)) ∙ not-false _ (c .if1 .left))) (omega arith) (omega arith),
-    )
+loop-again c = (
+  omega arith,
+  λ ys h.
+      let f = row-first (marked (c .before .before .before .before .before .args .bound .now)) (c .before .before .before .loop .inv .1 ys h) (omega arith) in
+      row-moved (f .next (sym (c .before .closed-atom .ensures (f .atom) (f .here)) ∙ not-false _ (c .if1 .left))) (omega arith) (omega arith),
+)
 
--- src/closed.rt:31:1
 returns-2 : tie.Need-returns-2 Inv-loop μ-loop
 returns-2 c =
     λ ys h. row-done (marked (c .before .before .before .args .bound .now)) (c .before .loop .inv .1 ys h) (omega arith)

@@ -1,8 +1,6 @@
+-- After i turns the first i numerals stand in the store.
 use Rattle.term.proofs.numerals.copy_numerals.Statement.{statement}
 use Rattle.term.proofs.numerals.copy_numerals.Tie as tie
-use Rattle.term.proofs.numerals.copy_numerals.Reads as reads
-use Rattle.term.proofs.numerals.copy_numerals.Lts as lts
-use Rattle.term.proofs.numerals.numeral.Reads as numeral-reads
 use borrow.Author.Needs.{needs}
 use mathlib.Core.Path.{_≡_, refl, sym, _∙_}
 use mathlib.Core.List.{List, map}
@@ -22,52 +20,41 @@ Inv-loop buf used k store₀ i₀ store i =
 abbrev μ-loop : tie.MeasureT-loop
 μ-loop buf used k store₀ i₀ store i = length store₀ - i
 
--- src/numerals.rt:37:5
 loop-holds : tie.Need-loop-holds Inv-loop μ-loop
 loop-holds c = (omega arith, refl, λ vs h. copied-none _ vs)
 
--- src/numerals.rt:38:33
 add-numeral : tie.Need-add-numeral Inv-loop μ-loop
 add-numeral c = search needs
 
--- src/numerals.rt:38:20
 numeral-requires : tie.Need-numeral-requires Inv-loop μ-loop
 numeral-requires c κs =
     let r = record-row (c .before .before .before .before .pre .0 .0) (c .before .before .before .before .pre .0 .1) (c .before .before .before .before .pre .1) in (c .before .before .before .before .pre .0 .0, (r .0, omega (arith, r .1, c .before .before .before .before .pre .2, c .before .loop .inv .1)))
 
--- src/numerals.rt:38:9
 mul-store : tie.Need-mul-store Inv-loop μ-loop
 mul-store c = search needs
 
--- src/numerals.rt:38:9
 slice-write-store : tie.Need-slice-write-store Inv-loop μ-loop
 slice-write-store c = c .before .loop-test .taken
 
--- src/numerals.rt:39:9
 add-i : tie.Need-add-i Inv-loop μ-loop
 add-i c = search needs
 
--- src/numerals.rt:37:5
 loop-less : tie.Need-loop-less Inv-loop μ-loop
 loop-less c = omega (arith, c .before .before .loop .inv .1)
 
--- src/numerals.rt:37:5
 loop-again : tie.Need-loop-again Inv-loop μ-loop
-loop-again c =
-    (
-      omega (arith, c .before .before .loop .inv .1),
-      simp length-set (c .before .before .loop .inv .1),
-      λ vs h.
-        let r = record-row vs h (c .before .before .before .before .before .pre .1) in
-        let b : c .before .before .loop .i < length vs = omega (arith, r .1, c .before .before .before .before .before .pre .2, c .before .before .loop .inv .1) in
-        copied-turn _ _ vs (c .before .before .loop .i) _ (omega (arith, c .before .before .loop .inv .1)) b (c .numeral .ensures vs (r .0) b) (c .before .before .loop .inv .2 vs h),
-    )
+loop-again c = (
+  omega (arith, c .before .before .loop .inv .1),
+  simp length-set (c .before .before .loop .inv .1),
+  λ vs h.
+      let r = record-row vs h (c .before .before .before .before .before .pre .1) in
+      let b : c .before .before .loop .i < length vs = omega (arith, r .1, c .before .before .before .before .before .pre .2, c .before .before .loop .inv .1) in
+      copied-turn _ _ vs (c .before .before .loop .i) _ (omega (arith, c .before .before .loop .inv .1)) b (c .numeral .ensures vs (r .0) b) (c .before .before .loop .inv .2 vs h),
+)
 
--- src/numerals.rt:32:1
 same-length : tie.Need-same-length Inv-loop μ-loop
 same-length c = c .before .loop .inv .1
 
--- src/numerals.rt:32:1
 returns : tie.Need-returns Inv-loop μ-loop
 returns c =
     λ vs h.

@@ -1,33 +1,26 @@
+-- Each atom of the row takes 8 bytes, its number the last four.
 use Rattle.term.proofs.numerals.numeral.Statement.{statement}
 use Rattle.term.proofs.numerals.numeral.Tie as tie
-use Rattle.term.proofs.numerals.numeral.Reads as reads
-use Rattle.term.proofs.numerals.numeral.Lts as lts
-use Rattle.buffer.proofs.get_u32.Reads as get-u32-reads
 use mathlib.Core.Path.{_∙_}
 use native.Mathlib.Omega.{arith}
 use Rattle.place.proofs.NumeralsLaws.{nth-numeral}
 
--- src/numerals.rt:29:23
 mul-get-u32 : tie.Need-mul-get-u32
 mul-get-u32 c =
     let n = nth-numeral (c .before .pre .0) (c .before .pre .1 .0) (c .before .args .i) (c .before .pre .1 .1) in omega (arith, n .0)
 
--- src/numerals.rt:29:18
 add-get-u32 : tie.Need-add-get-u32
 add-get-u32 c =
     let n = nth-numeral (c .before .pre .0) (c .before .pre .1 .0) (c .before .args .i) (c .before .pre .1 .1) in omega (arith, n .0)
 
--- src/numerals.rt:29:18
 add-get-u32-2 : tie.Need-add-get-u32-2
 add-get-u32-2 c =
     let n = nth-numeral (c .before .pre .0) (c .before .pre .1 .0) (c .before .args .i) (c .before .pre .1 .1) in omega (arith, n .0)
 
--- src/numerals.rt:29:5
 get-u32-requires : tie.Need-get-u32-requires
 get-u32-requires c κs =
     let n = nth-numeral (c .before .pre .0) (c .before .pre .1 .0) (c .before .args .i) (c .before .pre .1 .1) in omega (arith, n .0)
 
--- src/numerals.rt:25:1
 returns : tie.Need-returns
 returns c = λ vs h b. c .get-u32 .ensures ∙ nth-numeral vs h (c .before .before .args .i) b .1
 

@@ -1,34 +1,25 @@
+-- By the kind of what is bound.
 use borrow.Author.Needs.{needs}
 use Rattle.term.proofs.path.bound_atom.Statement.{statement}
 use Rattle.term.proofs.path.bound_atom.Tie as tie
-use Rattle.term.proofs.path.bound_atom.Reads as reads
-use Rattle.term.proofs.path.bound_atom.Lts as lts
-use Rattle.buffer.proofs.get_u16.Reads as get-u16-reads
-use mathlib.Core.Path.{ap, sym}
 use native.Mathlib.Omega.{arith}
 use Rattle.term.proofs.RangedLaws.{bound-high, bound-low}
 
--- src/path.rt:19:21
 add-get-u16 : tie.Need-add-get-u16
 add-get-u16 c = search needs
 
--- src/path.rt:19:8
 get-u16-requires : tie.Need-get-u16-requires
 get-u16-requires c κs = search needs
 
--- src/path.rt:20:16
 add-result : tie.Need-add-result
 add-result c = search needs
 
--- src/path.rt:20:9
 returns : tie.Need-returns
 returns c = bound-low _ _ (omega (arith, c .before .get-u16 .ensures .0, c .if1 .taken))
 
--- src/path.rt:22:5
 add-result-2 : tie.Need-add-result-2
 add-result-2 c = search needs
 
--- src/path.rt:15:1
 returns-2 : tie.Need-returns-2
 returns-2 c = bound-high _ _ (omega (arith, c .before .get-u16 .ensures .0, c .if1 .left))
 

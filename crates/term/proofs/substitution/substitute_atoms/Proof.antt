@@ -1,8 +1,6 @@
+-- Invariant: what is left to do of the row, done to the present bytes, gives what was to be done at first.
 use Rattle.term.proofs.substitution.substitute_atoms.Statement.{statement}
 use Rattle.term.proofs.substitution.substitute_atoms.Tie as tie
-use Rattle.term.proofs.substitution.substitute_atoms.Reads as reads
-use Rattle.term.proofs.substitution.substitute_atoms.Lts as lts
-use Rattle.term.proofs.substitution.substitute_atom.Reads as substitute-atom-reads
 use mathlib.Core.Path.{_≡_, refl, _∙_}
 use mathlib.Core.List.{List, map}
 use native.Mathlib.Omega.{arith}
@@ -26,49 +24,39 @@ Inv-loop buf₀ at count values i₀ buf i =
 abbrev μ-loop : tie.MeasureT-loop
 μ-loop buf₀ at count values i₀ buf i = count - i
 
--- src/substitution.rt:69:5
 loop-holds : tie.Need-loop-holds Inv-loop μ-loop
 loop-holds c = (omega arith, refl, λ ys h. row-moved (row-begin _ h) (omega arith) (omega arith))
 
--- src/substitution.rt:70:35
 mul-substitute-atom : tie.Need-mul-substitute-atom Inv-loop μ-loop
 mul-substitute-atom c =
     let r = row-room (c .before .before .loop .inv .2 (c .before .before .before .before .pre .0 .0) (c .before .before .before .before .pre .0 .1)) in omega arith
 
--- src/substitution.rt:70:30
 add-substitute-atom : tie.Need-add-substitute-atom Inv-loop μ-loop
 add-substitute-atom c =
     let r = row-room (c .before .before .loop .inv .2 (c .before .before .before .before .pre .0 .0) (c .before .before .before .before .pre .0 .1)) in omega arith
 
--- src/substitution.rt:70:9
 substitute-atom-requires : tie.Need-substitute-atom-requires Inv-loop μ-loop
 substitute-atom-requires c κs =
     let f = row-first (c .before .before .before .before .args .values .now) (c .before .before .loop .inv .2 (c .before .before .before .before .pre .0 .0) (c .before .before .before .before .pre .0 .1)) (omega arith) in ((f .atom, f .here), c .before .before .before .before .pre .1)
 
--- src/substitution.rt:71:9
 add-i : tie.Need-add-i Inv-loop μ-loop
 add-i c = search needs
 
--- src/substitution.rt:69:5
 loop-less : tie.Need-loop-less Inv-loop μ-loop
 loop-less c = search needs
 
--- src/substitution.rt:69:5
 loop-again : tie.Need-loop-again Inv-loop μ-loop
-loop-again c =
-    (
-      omega arith,
-      c .before .before .substitute-atom .kept .0 ∙ c .before .before .before .before .before .loop .inv .1,
-      λ ys h.
-        let f = row-first (c .before .before .before .before .before .before .before .args .values .now) (c .before .before .before .before .before .loop .inv .2 ys h) (omega arith) in
-        row-moved (f .next _ (c .before .before .substitute-atom .ensures (f .atom) (f .here))) (omega arith) (omega arith),
-    )
+loop-again c = (
+  omega arith,
+  c .before .before .substitute-atom .kept .0 ∙ c .before .before .before .before .before .loop .inv .1,
+  λ ys h.
+      let f = row-first (c .before .before .before .before .before .before .before .args .values .now) (c .before .before .before .before .before .loop .inv .2 ys h) (omega arith) in
+      row-moved (f .next _ (c .before .before .substitute-atom .ensures (f .atom) (f .here))) (omega arith) (omega arith),
+)
 
--- src/substitution.rt:64:1
 same-length : tie.Need-same-length Inv-loop μ-loop
 same-length c = c .before .loop .inv .1
 
--- src/substitution.rt:64:1
 returns : tie.Need-returns Inv-loop μ-loop
 returns c = λ ys h. row-done (c .before .before .before .args .values .now) (c .before .loop .inv .2 ys h) (omega arith)
 

@@ -1,13 +1,8 @@
+-- The term behind the header, substituted, and the zeros behind the record: one law of the record layer.
 use borrow.Author.Needs.{needs}
 use Rattle.term.proofs.substitution.substitute_record.Statement.{statement}
 use Rattle.term.proofs.substitution.substitute_record.Tie as tie
-use Rattle.term.proofs.substitution.substitute_record.Reads as reads
-use Rattle.term.proofs.substitution.substitute_record.Lts as lts
-use Rattle.buffer.proofs.zero.Reads as zero-reads
-use Rattle.term.proofs.substitution.from_store.Reads as from-store-reads
-use Rattle.term.proofs.substitution.substitute_at.Reads as substitute-at-reads
-use mathlib.Core.List.{List}
-use mathlib.Core.Path.{ap, _∙_, _≡_}
+use mathlib.Core.Path.{ap, _∙_}
 use Rattle.buffer.specs.Slice.{put}
 use Rattle.record.specs.Term.{encodeTermRecord}
 use Rattle.record.proofs.WordsLaws.{termSize-substitute}
@@ -15,28 +10,22 @@ use Rattle.rules.specs.Substitution.{Substitution, fromStore, substitute}
 use Rattle.place.proofs.TermRecordLaws.{record-put}
 use Rattle.term.proofs.RangedLaws.{record-ranged}
 
--- src/substitution.rt:117:37
 from-store-requires : tie.Need-from-store-requires
 from-store-requires c κs = search needs
 
--- src/substitution.rt:117:5
 substitute-at-requires : tie.Need-substitute-at-requires
 substitute-at-requires c κs =
     ((c .before .before .before .before .pre .0 .0, record-ranged (c .before .before .before .before .pre .0 .1) (c .before .before .before .before .pre .1)), c .from-store .ensures .0)
 
--- src/substitution.rt:118:18
 sub-behind : tie.Need-sub-behind
 sub-behind c = search needs
 
--- src/substitution.rt:119:5
 zero-requires : tie.Need-zero-requires
 zero-requires c κs = search needs
 
--- src/substitution.rt:113:1
 same-length : tie.Need-same-length
 same-length c = search needs
 
--- src/substitution.rt:113:1
 returns : tie.Need-returns
 returns c =
     λ t h.

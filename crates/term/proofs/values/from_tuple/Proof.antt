@@ -1,13 +1,10 @@
-use Rattle.term.proofs.substitution.from_tuple.Statement.{statement}
-use Rattle.term.proofs.substitution.from_tuple.Tie as tie
-use Rattle.term.proofs.substitution.from_tuple.Reads as reads
-use Rattle.term.proofs.substitution.from_tuple.Lts as lts
-use Rattle.term.proofs.numerals.numeral.Reads as numeral-reads
-use Rattle.term.proofs.substitution.wide64.Reads as wide64-reads
+-- After i turns the array stands for the first i numerals.
+use Rattle.term.proofs.values.from_tuple.Statement.{statement}
+use Rattle.term.proofs.values.from_tuple.Tie as tie
 use borrow.Author.Needs.{needs}
-use Prim.Native.Nat.{ℕ, _+_, _-_, _<_, _≤_}
+use Prim.Native.Nat.{ℕ, _-_, _<_, _≤_}
 use mathlib.Core.List.{List, map}
-use mathlib.Core.Path.{_≡_, sym, _∙_}
+use mathlib.Core.Path.{_≡_, _∙_}
 use native.Mathlib.Omega.{arith}
 use lib.ListN.{length, length-set, take}
 use Rattle.rules.specs.Substitution.{fromStore}
@@ -25,57 +22,45 @@ Inv-loop buf at k values₀ count i₀ values i =
 abbrev μ-loop : tie.MeasureT-loop
 μ-loop buf at k values₀ count i₀ values i = k - i
 
--- src/substitution.rt:69:5
 loop-holds : tie.Need-loop-holds Inv-loop μ-loop
 unfolding blank
 loop-holds c = (omega arith, length-blank, λ vs h. built-none vs)
 
--- src/substitution.rt:70:45
 add-numeral : tie.Need-add-numeral Inv-loop μ-loop
 add-numeral c = let r = term-room (c .before .before .before .pre .0 .1) in omega arith
 
--- src/substitution.rt:70:32
 numeral-requires : tie.Need-numeral-requires Inv-loop μ-loop
 numeral-requires c κs =
     let r = numerals-row (c .before .before .before .pre .0 .0) (c .before .before .before .pre .0 .1) in (c .before .before .before .pre .0 .0, (r .0, omega (arith, r .1)))
 
--- src/substitution.rt:70:25
 wide64-requires : tie.Need-wide64-requires Inv-loop μ-loop
 wide64-requires c κs = search needs
 
--- src/substitution.rt:70:16
 add-values : tie.Need-add-values Inv-loop μ-loop
 add-values c = search needs
 
--- src/substitution.rt:70:9
 mul-values : tie.Need-mul-values Inv-loop μ-loop
 mul-values c = search needs
 
--- src/substitution.rt:70:9
 array-write-values : tie.Need-array-write-values Inv-loop μ-loop
 array-write-values c = search needs
 
--- src/substitution.rt:71:9
 add-i : tie.Need-add-i Inv-loop μ-loop
 add-i c = search needs
 
--- src/substitution.rt:69:5
 loop-less : tie.Need-loop-less Inv-loop μ-loop
 loop-less c = search needs
 
--- src/substitution.rt:69:5
 loop-again : tie.Need-loop-again Inv-loop μ-loop
-loop-again c =
-    (
-      omega arith,
-      simp length-set (c .before .before .before .loop .inv .1),
-      λ vs h.
-        let r = numerals-row vs h in
-        let b : c .before .before .before .loop .i < length vs = omega (arith, r .1) in
-        built-next vs (c .before .before .before .loop .values) (c .before .before .before .loop .i) _ (c .before .before .before .loop .inv .1) b (omega (arith, r .1)) (c .wide64 .ensures .0 ∙ c .before .numeral .ensures vs (r .0) b) (c .wide64 .ensures .1) (c .before .before .before .loop .inv .2 vs h),
-    )
+loop-again c = (
+  omega arith,
+  simp length-set (c .before .before .before .loop .inv .1),
+  λ vs h.
+      let r = numerals-row vs h in
+      let b : c .before .before .before .loop .i < length vs = omega (arith, r .1) in
+      built-next vs (c .before .before .before .loop .values) (c .before .before .before .loop .i) _ (c .before .before .before .loop .inv .1) b (omega (arith, r .1)) (c .wide64 .ensures .0 ∙ c .before .numeral .ensures vs (r .0) b) (c .wide64 .ensures .1) (c .before .before .before .loop .inv .2 vs h),
+)
 
--- src/substitution.rt:62:1
 returns : tie.Need-returns Inv-loop μ-loop
 returns c =
     (c .before .loop .inv .1, λ vs h. let r = numerals-row vs h in built-all vs (c .before .loop .values) (c .before .loop .i) (omega (arith, r .1)) (c .before .loop .inv .2 vs h))
