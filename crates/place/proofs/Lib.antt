@@ -15,3 +15,6 @@ pub mod TermPutLaws
 pub mod HeldTermLaws
 pub mod ProgramRecordLaws
 pub mod SourceKindLaws
+pub mod TermSubstitutionLaws
+pub mod TermRecordLaws
+pub mod NumeralsLaws

@@ -20,3 +20,4 @@ pub mod HeaderReadLaws
 pub mod AloneLaws
 pub mod TermReadLaws
 pub mod PaddedLaws
+pub mod ContentsLaws

@@ -5,3 +5,9 @@ pub mod RecognitionLaws
 pub mod AllLaws
 pub mod CommandLaws
 pub mod WriteLaws
+pub mod ValuesLaws
+pub mod AtomSubstitutionLaws
+pub mod RangedLaws
+pub mod SubstituteAtLaws
+pub mod ClosedLaws
+pub mod NumeralsLaws

@@ -3,3 +3,7 @@ pub mod CallMeaning
 pub mod Scan
 pub mod Recognition
 pub mod CommandBytes
+pub mod Values
+pub mod Ranged
+pub mod BoundAtom
+pub mod Marks

@@ -1,2 +1,7 @@
-// The calls on terms. Only what works on checked input is here yet.
+// The inner functions of the calls on terms: they work on checked input, so that a caller can check once.
 pub mod read_back;
+pub mod closed;
+pub mod numerals;
+pub mod path;
+pub mod substitution;
+pub mod values;
