@@ -5,3 +5,5 @@ pub mod ProgramBytesLaws
 pub mod ProgramViewLaws
 pub mod TermBytesLaws
 pub mod TermViewLaws
+pub mod RecordPlaceLaws
+pub mod TranslatedLaws

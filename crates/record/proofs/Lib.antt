@@ -10,3 +10,4 @@ pub mod AnswerLaws
 pub mod HeldLaws
 pub mod HoldingLaws
 pub mod RowMeaningLaws
+pub mod PaddedLaws
