@@ -4,7 +4,7 @@ use mathlib.Core.Path.{ap, refl, _∙_, _≡_}
 use mathlib.Core.List.{_++_, List}
 use native.Mathlib.Omega.{arith}
 use Rattle.buffer.specs.LittleEndian.{le}
-use Rattle.rules.specs.Syntax.{Atom, Bound, Expr, dec, inc, lit, num, ref, upto, uptoVar, var}
+use Rattle.rules.specs.Syntax.{Bound, Expr, Simple, dec, inc, lit, num, plain, predOf, ref, succOf, upto, uptoVar, var}
 use Rattle.rules.specs.Translation.{atomOf, simpleOf}
 use Rattle.record.specs.Program.{boundKind, boundNumber, exprKind, exprNumber}
 use Rattle.record.specs.Term.{atomFrom, atomKind, atomNumber, encodeAtom, encodeSimple, simpleSize}
@@ -54,3 +54,9 @@ simpleSize-high (lit v) h = absurd (omega arith)
 simpleSize-high (var x) h = absurd (omega arith)
 simpleSize-high (inc x) h = refl
 simpleSize-high (dec x) h = refl
+
+pub simple-most : (s : Simple) → simpleSize s ≤ 12
+unfolding simpleSize
+simple-most (plain a) = omega arith
+simple-most (succOf a) = omega arith
+simple-most (predOf a) = omega arith

@@ -1,2 +1,5 @@
 pub mod CallLaws
 pub mod CallMeaningLaws
+pub mod RowTranslationLaws
+pub mod StoresLaws
+pub mod TranslationHeadsLaws

@@ -1,2 +1,4 @@
 pub mod Calls
 pub mod CallMeaning
+pub mod RowTranslation
+pub mod TranslationHeads

@@ -1,1 +1,2 @@
-// No code yet: the crate is its definitions (specs) and theorems (proofs).
+// Work on checked records: each function says of its input what the checker has found of it.
+pub mod translation;
