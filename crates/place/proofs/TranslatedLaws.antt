@@ -1,13 +1,13 @@
 -- The bytes of a translated expression and of a translated bound, by the kinds of the source (01 "Translation and read-back").
 use Prim.Native.Nat.{_+_, _<_, _≤_, ℕ}
 use mathlib.Core.Path.{ap, refl, _∙_, _≡_}
-use mathlib.Core.List.{_++_, List}
+use mathlib.Core.List.{_++_, List, []}
 use native.Mathlib.Omega.{arith}
 use Rattle.buffer.specs.LittleEndian.{le}
 use Rattle.rules.specs.Syntax.{Bound, Expr, Simple, dec, inc, lit, num, plain, predOf, ref, succOf, upto, uptoVar, var}
 use Rattle.rules.specs.Translation.{atomOf, simpleOf}
 use Rattle.record.specs.Program.{boundKind, boundNumber, exprKind, exprNumber}
-use Rattle.record.specs.Term.{atomFrom, atomKind, atomNumber, encodeAtom, encodeSimple, simpleSize}
+use Rattle.record.specs.Term.{atomFrom, atomKind, atomNumber, encodeAtom, encodeAtoms, encodeSimple, simpleSize}
 use Rattle.place.specs.Heads.{recordHead}
 use Rattle.place.proofs.ProgramBytesLaws.{encodeLeaf-head}
 use Rattle.place.proofs.TermBytesLaws.{encodeSimple-plain, encodeSimple-pred, encodeSimple-succ}
@@ -19,6 +19,10 @@ num-head v = encodeLeaf-head atomKind atomNumber atomFrom (num v)
 pub ref-head : (v : ℕ) → encodeAtom (ref v) ≡ recordHead 33 8 ++ le 4 v
 unfolding atomKind atomNumber
 ref-head v = encodeLeaf-head atomKind atomNumber atomFrom (ref v)
+
+pub encodeAtoms-nil : encodeAtoms [] ≡ []
+unfolding encodeAtoms
+encodeAtoms-nil = refl
 
 -- a bound, and a literal or a variable, become an atom of the kind 16 higher
 pub atomOf-bytes : (n : Bound) → encodeAtom (atomOf n) ≡ recordHead (boundKind n + 16) 8 ++ le 4 (boundNumber n)

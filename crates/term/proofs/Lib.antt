@@ -3,3 +3,5 @@ pub mod CallMeaningLaws
 pub mod RowTranslationLaws
 pub mod StoresLaws
 pub mod TranslationHeadsLaws
+pub mod TupleLaws
+pub mod RowViewLaws

@@ -73,11 +73,11 @@ module _ (l : List ℕ) (p n kind : ℕ) (read : kind ≡ u16At l (p + 10)) wher
 -- A LET-ALL
 
 module _ (l : List ℕ) (k p n m kind : ℕ) (read : kind ≡ u16At l (p + 2)) where
-  letAllHead-loop : kind ≡ 3 → letAllHead k l p n m ≡ recordHead 38 n ++ (recordHead 39 (20 + 8 * k + m) ++ (bindingBytes l p ++ allBytes k))
+  pub letAllHead-loop : kind ≡ 3 → letAllHead k l p n m ≡ recordHead 38 n ++ (recordHead 39 (20 + 8 * k + m) ++ (bindingBytes l p ++ allBytes k))
   unfolding letAllHead letAllHeadIf
   letAllHead-loop h = rw (← read, eq-eqb kind 3 h) refl
 
-  letAllHead-nest : (kind ≡ 3 → ⊥) → letAllHead k l p n m ≡ recordHead 38 n
+  pub letAllHead-nest : (kind ≡ 3 → ⊥) → letAllHead k l p n m ≡ recordHead 38 n
   unfolding letAllHead letAllHeadIf
   letAllHead-nest h = rw (← read, ne-eqb kind 3 h) refl
 

@@ -2,3 +2,4 @@ pub mod Calls
 pub mod CallMeaning
 pub mod RowTranslation
 pub mod TranslationHeads
+pub mod TranslationTasks

@@ -4,6 +4,7 @@ ghost use Prim.Native.Nat.{_+_, _*_, _≤_, _<_};
 ghost use lib.ListN.{length};
 ghost use Rattle.buffer.specs.Slice.{put};
 ghost use Rattle.place.specs.Heads.{recordHead};
+ghost use Rattle.term.specs.RowTranslation.{allBytes};
 ghost use Rattle.term.specs.TranslationHeads.{bindingBytes, letOneHead, letOneSize, u16At};
 ghost use lib.Dec.{ltb};
 
@@ -61,4 +62,20 @@ fn write_let_one(src: &[u8], at: usize, out: &mut [u8], o: usize, n: usize) -> u
     put_head(out, o + 12, 33, 8);
     buffer::put_u32(out, o + 16, buffer::get_u32(src, at + 12));
     o + 20
+}
+
+// The tuple of the variables 1 to k.
+fn write_tuple(out: &mut [u8], o: usize, k: u32)
+    requires { ⌜ (o + (4 + 8 * k) ≤ length (now out)) × (k ≤ 16) ⌝ }
+    ensures { λ _. ⌜ now (out .exit) ≡ put (now (out .entry)) o (allBytes k) ⌝ }
+{
+    put_head(out, o, 36, tuple_size(k));
+    let mut p = o + 4;
+    let mut x = 1;
+    while x <= k {
+        put_head(out, p, 33, 8);
+        buffer::put_u32(out, p + 4, x);
+        p += 8;
+        x += 1;
+    }
 }
