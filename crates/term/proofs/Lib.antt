@@ -5,3 +5,4 @@ pub mod StoresLaws
 pub mod TranslationHeadsLaws
 pub mod TupleLaws
 pub mod RowViewLaws
+pub mod RowScanLaws

@@ -3,3 +3,4 @@ pub mod CallMeaning
 pub mod RowTranslation
 pub mod TranslationHeads
 pub mod TranslationTasks
+pub mod RowScan

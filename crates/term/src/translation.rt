@@ -4,7 +4,7 @@ ghost use Prim.Native.Nat.{_+_, _*_, _≤_, _<_};
 ghost use lib.ListN.{length};
 ghost use Rattle.buffer.specs.Slice.{put};
 ghost use Rattle.place.specs.Heads.{recordHead};
-ghost use Rattle.term.specs.RowTranslation.{allBytes};
+ghost use Rattle.term.specs.RowTranslation.{RowAt, allBytes, rowSize};
 ghost use Rattle.term.specs.TranslationHeads.{bindingBytes, letOneHead, letOneSize, u16At};
 ghost use lib.Dec.{ltb};
 
@@ -78,4 +78,40 @@ fn write_tuple(out: &mut [u8], o: usize, k: u32)
         p += 8;
         x += 1;
     }
+}
+
+fn let_one_size(src: &[u8], at: usize) -> usize
+    requires { ⌜ at + 16 ≤ length (now src) ⌝ }
+    ensures { λ r. ⌜ r ≡ letOneSize (ltb (u16At (now (src .entry)) (at + 10)) 18) ⌝ }
+{
+    if buffer::get_u16(src, at + 10) < 18 {
+        16
+    } else {
+        20
+    }
+}
+
+// How long the translation of a row is. Commands are met in the order of their bytes, at whatever depth, so this takes no stack:
+// each adds what its translation has besides those of its rows, and each row ends with a tuple.
+fn row_size(src: &[u8], from: usize, to: usize, k: u32) -> usize
+    requires { ⌜ (RowAt (now src) from to) × (k ≤ 16) ⌝ }
+    ensures { λ r. ⌜ ((h : RowAt (now (src .entry)) from to) → r ≡ rowSize k (h .block)) ⌝ }
+{
+    let tuple = tuple_size(k);
+    let mut total = tuple;
+    let mut at = from;
+    while at < to {
+        let kind = buffer::get_u16(src, at + 2);
+        if kind == 2 {
+            total += let_one_size(src, at);
+            at += 16;
+        } else if kind == 3 {
+            total += 20 + 2 * tuple;
+            at += 20;
+        } else {
+            total += 4 + tuple;
+            at += 4;
+        }
+    }
+    total
 }
