@@ -6,3 +6,4 @@ pub mod TranslationHeadsLaws
 pub mod TupleLaws
 pub mod RowViewLaws
 pub mod RowScanLaws
+pub mod TaskLaws

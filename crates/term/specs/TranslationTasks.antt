@@ -7,7 +7,7 @@ use lib.ListN.{length}
 use Rattle.buffer.specs.Slice.{put}
 use Rattle.rules.specs.Syntax.{Block}
 use Rattle.term.specs.RowTranslation.{RowAt, rowBytes, rowSize}
-use Rattle.term.specs.TranslationHeads.{letAllHead, letAllSize, u16At}
+use Rattle.term.specs.TranslationHeads.{letAllHead, letAllSize, opening, u16At}
 use Rattle.term.specs.declared.translation.Parts.{Parts}
 use Rattle.term.specs.declared.translation.Task.{Task}
 
@@ -22,6 +22,15 @@ abbrev pub cutAt : Task → ℕ → ℕ → Parts
 cutAt t next mid = record {
   inner = record { from = t .from; to = next; start = t .start; stop = mid };
   rest = record { from = next; to = t .to; start = mid; stop = t .stop };
+}
+
+-- A task whose first command is a block or a loop, from the row inside that command on.
+abbrev pub pastHeads : ℕ → List ℕ → Task → Task
+pastHeads k src t = record {
+  from = t .from + opening (eqb (u16At src (t .from + 2)) 3);
+  to = t .to;
+  start = t .start + letAllSize k (eqb (u16At src (t .from + 2)) 3);
+  stop = t .stop;
 }
 
 -- The place of an inner row's translation, behind the head of the let-all.
