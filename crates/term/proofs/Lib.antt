@@ -7,3 +7,4 @@ pub mod TupleLaws
 pub mod RowViewLaws
 pub mod RowScanLaws
 pub mod TaskLaws
+pub mod ProgramTaskLaws

@@ -65,6 +65,18 @@ module _ (k : ℕ) (src : List ℕ) (t : Task) (kind f s : ℕ) (read : kind ≡
       → _≡_ {A = Task} (record { from = f; to = t .to; start = s; stop = t .stop }) (pastHeads k src t)
   past-nest h e d = past-is (omega (arith, opening-nest kind h)) (omega (arith, letAllSize-nest k kind h))
 
+-- there is room for the heads
+module _ {k : ℕ} {src : List ℕ} {t : Task} (h : TaskIn k src t) (some : t .from < t .to) where
+  pub loop-room : u16At src (t .from + 2) ≡ 3 → (t .from + 20 ≤ length src) × (t .start + (24 + 8 * k) ≤ t .stop)
+  loop-room three =
+      let o = row-open (h .row) some k (λ e. omega arith) in (
+        omega (arith, o .order, o .reach, row-room (h .row), opening-loop (u16At src (t .from + 2)) three),
+        omega (arith, o .size, h .region, letAllSize-loop k (u16At src (t .from + 2)) three),
+      )
+
+  pub head-room : (t .from + 4 ≤ length src) × (t .start + 4 ≤ t .stop)
+  head-room = (omega (arith, row-four (h .row) some, row-room (h .row)), omega (arith, h .region, rowSize-least k (h .row .block)))
+
 -- THE PARTS OF A LET-ALL
 
 module _ {k : ℕ} {src : List ℕ} {whole : Task} (h : TaskIn k src whole) (some : whole .from < whole .to) (two : u16At src (whole .from + 2) ≡ 2 → ⊥) where

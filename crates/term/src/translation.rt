@@ -1,12 +1,20 @@
 // The translation of a program into a term (01 "Translation and read-back"), on checked input.
 ghost use mathlib.Core.Path.{_≡_};
-ghost use Prim.Native.Nat.{_+_, _*_, _≤_, _<_};
+ghost use Prim.Native.Nat.{_+_, _-_, _*_, _≤_, _<_};
 ghost use lib.ListN.{length};
 ghost use Rattle.buffer.specs.Slice.{put};
 ghost use Rattle.place.specs.Heads.{recordHead};
+ghost use Rattle.record.specs.Header.{encodeTerm};
+ghost use Rattle.record.specs.Holding.{ProgramIn};
+ghost use Rattle.rules.specs.Syntax.{Block};
+ghost use Rattle.rules.specs.Translation.{translate};
 ghost use Rattle.term.specs.RowTranslation.{RowAt, allBytes, rowSize};
-ghost use Rattle.term.specs.TranslationHeads.{bindingBytes, letOneHead, letOneSize, u16At};
+ghost use Rattle.term.specs.TranslationTasks.{Opens, PartsOf, TaskIn, cutAt, pastHeads};
+ghost use Rattle.term.specs.TranslationHeads.{letAllHead, bindingBytes, letOneHead, letOneSize, u16At};
 ghost use lib.Dec.{ltb};
+
+// Where the contents of a program's or a term's record start: behind its length, kind and k.
+const CONTENTS: usize = 8;
 
 // A row of commands, from `from` up to `to` in the source, and the place of its translation, from `start` up to `stop` in the output.
 pub struct Task {
@@ -114,4 +122,51 @@ fn row_size(src: &[u8], from: usize, to: usize, k: u32) -> usize
         }
     }
     total
+}
+
+pub fn translation_size(src: &[u8], used: usize, k: u32) -> usize
+    requires { ⌜ ((P : Block) × ProgramIn k P (now src) used) × (length (now src) ≤ 16384) ⌝ }
+    ensures { λ r. ⌜ ((P : Block) → ProgramIn k P (now (src .entry)) used → r ≡ length (encodeTerm k (translate k P))) ⌝ }
+{
+    CONTENTS + row_size(src, CONTENTS + 4, used, k)
+}
+
+// A task with the heads of its block or loop passed, in the source and in the output.
+fn past_heads(src: &[u8], whole: Task, k: u32) -> Task
+    requires { ⌜ (TaskIn k (now src) whole) × (whole .from < whole .to) ⌝ }
+    ensures { λ r. ⌜ r ≡ pastHeads k (now (src .entry)) whole ⌝ }
+{
+    if buffer::get_u16(src, whole.from + 2) == 3 {
+        return Task {
+            from: whole.from + 20,
+            to: whole.to,
+            start: whole.start + 20 + tuple_size(k),
+            stop: whole.stop,
+        };
+    }
+    Task {
+        from: whole.from + 4,
+        to: whole.to,
+        start: whole.start + 4,
+        stop: whole.stop,
+    }
+}
+
+fn cut(task: Task, next: usize, mid: usize) -> Parts
+    ensures { λ r. ⌜ r ≡ cutAt task next mid ⌝ }
+{
+    Parts {
+        inner: Task {
+            from: task.from,
+            to: next,
+            start: task.start,
+            stop: mid,
+        },
+        rest: Task {
+            from: next,
+            to: task.to,
+            start: mid,
+            stop: task.stop,
+        },
+    }
 }
