@@ -1,6 +1,6 @@
 -- Tasks: the parts of a let-all, the turns of the writer's loop, and a whole program.
 use Prim.Native.Nat.{_*_, _+_, _-_, _<_, _≤_, ℕ}
-use mathlib.Core.Path.{ap, ap₂, refl, sym, _∙_, _≡_}
+use mathlib.Core.Path.{ap, ap₂, refl, subst, sym, _∙_, _≡_}
 use mathlib.Core.Bool.{Bool, false, true}
 use mathlib.Core.List.{_++_, List}
 use borrow.Author.Tests.{eq-eqb, ne-eqb}
@@ -101,6 +101,35 @@ module _ {k : ℕ} {src : List ℕ} {whole : Task} (h : TaskIn k src whole) (som
         stop = refl;
         bytes = rows .bytes ∙ ap₂ (λ (x y : ℕ). letAllHead k src (whole .from) x y ++ (rowBytes k (rows .inner .block) ++ rowBytes k (rows .rest .block))) n m;
       }
+
+  -- what the code makes of the numbers it reads: the heads passed, and the length n of the command
+  module _ (inner : Task) (n : ℕ) (past : inner ≡ pastHeads k src whole) (read : n ≡ u16At src (whole .from)) where
+    abbrev pub inner-row : RowAt src (inner .from) (whole .from + n)
+    inner-row = row-index (rows .inner) (sym (ap (λ (t : Task). t .from) past)) (ap (λ (y : ℕ). whole .from + y) (sym read))
+
+    abbrev pub rest-row : RowAt src (whole .from + n) (whole .to)
+    rest-row = row-index (rows .rest) (ap (λ (y : ℕ). whole .from + y) (sym read)) refl
+
+    pub rows-order : (inner .from ≤ whole .from + n) × (whole .from + n ≤ whole .to)
+    rows-order = (omega (arith, inner-row .ends), omega (arith, rest-row .ends))
+
+    pub rows-size : inner .start + rowSize k (rows .inner .block) + rowSize k (rows .rest .block) ≡ whole .stop
+    rows-size = omega (arith, h .region, rows .size, ap (λ (t : Task). t .start) past)
+
+    parts-cut : (mid : ℕ) (r : Parts) → inner .start + rowSize k (rows .inner .block) ≡ mid → r ≡ cutAt inner (whole .from + n) mid → PartsOf k src whole (h .row .block) r
+    parts-cut mid r e d =
+        let c : r ≡ cutAt (pastHeads k src whole) (whole .from + u16At src (whole .from)) mid =
+        d ∙ ap₂ (λ (t : Task) (y : ℕ). cutAt t (whole .from + y) mid) past read in
+        subst (PartsOf k src whole (h .row .block)) (sym c) (parts mid (omega (arith, ap (λ (t : Task). t .start) past)))
+
+    -- one of the two rows was measured
+    pub parts-inner : (size : ℕ) (r : Parts) → ((g : RowAt src (inner .from) (whole .from + n)) → size ≡ rowSize k (g .block))
+        → r ≡ cutAt inner (whole .from + n) (inner .start + size) → PartsOf k src whole (h .row .block) r
+    parts-inner size r m d = parts-cut (inner .start + size) r (omega (arith, m inner-row)) d
+
+    pub parts-rest : (size : ℕ) (r : Parts) → ((g : RowAt src (whole .from + n) (whole .to)) → size ≡ rowSize k (g .block))
+        → r ≡ cutAt inner (whole .from + n) (whole .stop - size) → PartsOf k src whole (h .row .block) r
+    parts-rest size r m d = parts-cut (whole .stop - size) r (omega (arith, rows-size, m rest-row)) d
 
 -- THE WRITER'S LOOP
 

@@ -4,11 +4,12 @@ ghost use Prim.Native.Nat.{_+_, _-_, _*_, _≤_, _<_};
 ghost use lib.ListN.{length};
 ghost use Rattle.buffer.specs.Slice.{put};
 ghost use Rattle.place.specs.Heads.{recordHead};
+ghost use Rattle.record.specs.Answers.{padded};
 ghost use Rattle.record.specs.Header.{encodeTerm};
 ghost use Rattle.record.specs.Holding.{ProgramIn};
 ghost use Rattle.rules.specs.Syntax.{Block};
 ghost use Rattle.rules.specs.Translation.{translate};
-ghost use Rattle.term.specs.RowTranslation.{RowAt, allBytes, rowSize};
+ghost use Rattle.term.specs.RowTranslation.{RowAt, allBytes, rowBytes, rowSize};
 ghost use Rattle.term.specs.TranslationTasks.{Opens, PartsOf, TaskIn, cutAt, pastHeads};
 ghost use Rattle.term.specs.TranslationHeads.{letAllHead, bindingBytes, letOneHead, letOneSize, u16At};
 ghost use lib.Dec.{ltb};
@@ -169,4 +170,66 @@ fn cut(task: Task, next: usize, mid: usize) -> Parts
             stop: task.stop,
         },
     }
+}
+
+// The two rows of a let-all, and where each goes. Together they fill what its heads leave, so only the shorter is measured.
+fn rows_of(src: &[u8], whole: Task, k: u32) -> Parts
+    requires { ⌜ (TaskIn k (now src) whole) × (whole .from < whole .to) × (u16At (now src) (whole .from + 2) ≡ 2 → ⊥) ⌝ }
+    ensures { λ r. ⌜ ((h : TaskIn k (now (src .entry)) whole) → PartsOf k (now (src .entry)) whole (h .row .block) r) ⌝ }
+{
+    let inner = past_heads(src, whole, k);
+    let next = whole.from + buffer::get_u16(src, whole.from);
+    if next - inner.from <= whole.to - next {
+        let size = row_size(src, inner.from, next, k);
+        return cut(inner, next, inner.start + size);
+    }
+    let size = row_size(src, next, whole.to, k);
+    cut(inner, next, whole.stop - size)
+}
+
+// What a let-all begins with; of a loop the rec, whose body is the inner row, is begun too.
+fn write_let_all(src: &[u8], whole: Task, inner: Task, k: u32, out: &mut [u8])
+    requires { ⌜ (Opens k (now src) whole inner) × (whole .stop ≤ length (now out)) ⌝ }
+    ensures { λ _. ⌜ now (out .exit) ≡ put (now (out .entry)) (whole .start) (letAllHead k (now (src .entry)) (whole .from) (whole .stop - whole .start) (inner .stop - inner .start)) ⌝ }
+{
+    let o = whole.start;
+    put_head(out, o, 38, whole.stop - o);
+    if buffer::get_u16(src, whole.from + 2) == 3 {
+        put_head(
+            out,
+            o + 4,
+            39,
+            16 + tuple_size(k) + (inner.stop - inner.start),
+        );
+        write_binding(src, whole.from, out, o + 8);
+        write_tuple(out, o + 20, k);
+    }
+}
+
+// Of a let-all's two rows the shorter is written by a call and the longer by the loop, so the calls nest no deeper than the
+// logarithm of the length.
+fn write_row(src: &[u8], task: Task, k: u32, out: &mut [u8])
+    requires { ⌜ (TaskIn k (now src) task) × (task .stop ≤ length (now out)) ⌝ }
+    ensures { λ _. ⌜ ((h : TaskIn k (now (src .entry)) task) → now (out .exit) ≡ put (now (out .entry)) (task .start) (rowBytes k (h .row .block))) ⌝ }
+{
+    let mut left = task;
+    while left.from < left.to {
+        if buffer::get_u16(src, left.from + 2) == 2 {
+            left.start = write_let_one(src, left.from, out, left.start, left.stop - left.start);
+            left.from += 16;
+        } else {
+            let parts = rows_of(src, left, k);
+            let inner = parts.inner;
+            let rest = parts.rest;
+            write_let_all(src, left, inner, k, out);
+            if inner.to - inner.from <= rest.to - rest.from {
+                write_row(src, inner, k, out);
+                left = rest;
+            } else {
+                write_row(src, rest, k, out);
+                left = inner;
+            }
+        }
+    }
+    write_tuple(out, left.start, k);
 }
