@@ -18,6 +18,7 @@ use Rattle.place.specs.Heads.{recordHead}
 use Rattle.place.proofs.HeadsLaws.{length-recordHead}
 use Rattle.place.proofs.RecordPlaceLaws.{encodeTerm-head, program-end, program-row}
 use Rattle.term.specs.RowTranslation.{RowAt, rowBytes, rowSize}
+use Rattle.term.specs.TranslationTasks.{TaskIn}
 use Rattle.term.proofs.RowTranslationLaws.{rowSize-most}
 use Rattle.term.proofs.StoresLaws.{stores3}
 
@@ -30,20 +31,23 @@ module _ {k : ℕ} {P : Block} {src : List ℕ} {used : ℕ} (h : ProgramIn k P 
   abbrev pub program-commands : RowAt src 12 used
   program-commands = record { block = P; here = program-row h l; ends = program-end h }
 
+  -- and where its translation goes
+  abbrev pub program-task : (total : ℕ) → total ≡ length (encodeTerm k (translate k P)) → TaskIn k src (record { from = 12; to = used; start = 8; stop = total })
+  program-task total e = record { row = program-commands; few = h .k-high; region = sym (e ∙ term-length k P) }
+
   pub term-bound : rowSize k P ≤ 557188
   term-bound = omega (arith, rowSize-most k P (h .k-high), program-end h, h .within)
 
 -- the header, the term and the zeros behind it, stored one after the other
-pub term-stores : (k : ℕ) (P : Block) (out out₁ out₂ out₃ out₄ : List ℕ) (total : ℕ) → total ≡ length (encodeTerm k (translate k P)) → total ≤ length out
-    → out₁ ≡ put out 0 (recordHead 40 total) → out₂ ≡ put out₁ 4 (le 4 k) → out₃ ≡ put out₂ 8 (rowBytes k P) → out₄ ≡ put out₃ total (zeros (length out - total))
+pub term-stores : (k : ℕ) (P : Block) (out out₁ out₂ out₃ out₄ : List ℕ) (total room : ℕ) → total ≡ length (encodeTerm k (translate k P)) → room ≡ length out → total ≤ room
+    → out₁ ≡ put out 0 (recordHead 40 total) → out₂ ≡ put out₁ 4 (le 4 k) → out₃ ≡ put out₂ 8 (rowBytes k P) → out₄ ≡ put out₃ total (zeros (room - total))
     → out₄ ≡ padded (length out) (encodeTerm k (translate k P))
 unfolding rowBytes
-term-stores k P out out₁ out₂ out₃ out₄ total e h e₁ e₂ e₃ e₄ =
+term-stores k P out out₁ out₂ out₃ out₄ total room e r h e₁ e₂ e₃ e₄ =
     let t : List ℕ = encodeTerm k (translate k P) in
-    let n : length t ≡ total = sym e in
     let m : 8 ≤ total = omega (arith, term-length k P) in
     let whole : recordHead 40 total ++ (le 4 k ++ rowBytes k P) ≡ t = rw (e, length-encodeTerm k (translate k P)) (sym (encodeTerm-head k (translate k P))) in
     let s : out₃ ≡ put out 0 t =
     stores3 out out₁ out₂ out₃ (recordHead 40 total) (le 4 k) (rowBytes k P) 0 4 8 e₁ e₂ e₃ (omega (arith, length-recordHead 40 total)) (omega (arith, length-le 4 k)) (omega arith)
     ∙ ap (put out 0) whole in
-    rw (e₄, s) (put-padded out t total n h)
+    rw (e₄, s, r) (put-padded out t total (sym e) (omega arith))

@@ -233,3 +233,21 @@ fn write_row(src: &[u8], task: Task, k: u32, out: &mut [u8])
     }
     write_tuple(out, left.start, k);
 }
+
+pub fn write_translation(src: &[u8], used: usize, k: u32, out: &mut [u8])
+    requires { ⌜ ((P : Block) × ProgramIn k P (now src) used × (length (encodeTerm k (translate k P)) ≤ length (now out))) × (length (now src) ≤ 16384) ⌝ }
+    ensures { λ _. ⌜ ((P : Block) → ProgramIn k P (now (src .entry)) used → now (out .exit) ≡ padded (length (now (out .entry))) (encodeTerm k (translate k P))) ⌝ }
+{
+    let total = translation_size(src, used, k);
+    put_head(out, 0, 40, total);
+    buffer::put_u32(out, 4, k);
+    let whole = Task {
+        from: CONTENTS + 4,
+        to: used,
+        start: CONTENTS,
+        stop: total,
+    };
+    write_row(src, whole, k, out);
+    let room = out.len();
+    buffer::zero(out, total, room - total);
+}
