@@ -1,92 +1,41 @@
-// The translation of a program into a term (01 "Translation and read-back"), on checked input.
+// The translation of a checked program into a term's record (01 "Translation and read-back").
 ghost use mathlib.Core.Path.{_≡_};
 ghost use Prim.Native.Nat.{_+_, _-_, _*_, _≤_, _<_};
+ghost use lib.Dec.{ltb};
 ghost use lib.ListN.{length};
 ghost use Rattle.buffer.specs.Slice.{put};
-ghost use Rattle.place.specs.Heads.{recordHead};
+ghost use Rattle.rules.specs.Syntax.{Block};
+ghost use Rattle.rules.specs.Translation.{translate};
 ghost use Rattle.record.specs.Answers.{padded};
 ghost use Rattle.record.specs.Header.{encodeTerm};
 ghost use Rattle.record.specs.Holding.{ProgramIn};
-ghost use Rattle.rules.specs.Syntax.{Block};
-ghost use Rattle.rules.specs.Translation.{translate};
+ghost use Rattle.place.specs.Heads.{recordHead};
 ghost use Rattle.term.specs.RowTranslation.{RowAt, allBytes, rowBytes, rowSize};
+ghost use Rattle.term.specs.TranslationHeads.{bindingBytes, letAllHead, letOneHead, letOneSize, u16At};
 ghost use Rattle.term.specs.TranslationTasks.{Opens, PartsOf, TaskIn, cutAt, pastHeads};
-ghost use Rattle.term.specs.TranslationHeads.{letAllHead, bindingBytes, letOneHead, letOneSize, u16At};
-ghost use lib.Dec.{ltb};
 
 // Where the contents of a program's or a term's record start: behind its length, kind and k.
 const CONTENTS: usize = 8;
 
-// A row of commands, from `from` up to `to` in the source, and the place of its translation, from `start` up to `stop` in the output.
-pub struct Task {
-    pub from: usize,
-    pub to: usize,
-    pub start: usize,
-    pub stop: usize,
+// A row of commands, from `from` up to `to` in the source, and the place of its translation, from `start` up to `stop` in
+// the output.
+struct Task {
+    from: usize,
+    to: usize,
+    start: usize,
+    stop: usize,
 }
 
 // The two rows that a let-all is made of: that inside its command, and that behind it.
-pub struct Parts {
-    pub inner: Task,
-    pub rest: Task,
-}
-
-fn put_head(buf: &mut [u8], at: usize, kind: usize, n: usize)
-    requires { ⌜ at + 4 ≤ length (now buf) ⌝ }
-    ensures { λ _. ⌜ now (buf .exit) ≡ put (now (buf .entry)) at (recordHead kind n) ⌝ }
-{
-    buffer::put_u16(buf, at, n);
-    buffer::put_u16(buf, at + 2, kind);
+struct Parts {
+    inner: Task,
+    rest: Task,
 }
 
 fn tuple_size(k: u32) -> usize
     ensures { λ r. ⌜ r ≡ 4 + 8 * k ⌝ }
 {
     4 + 8 * (k as usize)
-}
-
-// The variable and the atom of the assignment or loop at `at`. Each number is one move; a copy of the 12 bytes would go byte by byte.
-fn write_binding(src: &[u8], at: usize, out: &mut [u8], o: usize)
-    requires { ⌜ (at + 16 ≤ length (now src)) × (o + 12 ≤ length (now out)) ⌝ }
-    ensures { λ _. ⌜ now (out .exit) ≡ put (now (out .entry)) o (bindingBytes (now (src .entry)) at) ⌝ }
-{
-    buffer::put_u32(out, o, buffer::get_u32(src, at + 4));
-    put_head(out, o + 4, buffer::get_u16(src, at + 10) + 16, 8);
-    buffer::put_u32(out, o + 8, buffer::get_u32(src, at + 12));
-}
-
-// What a let-one of n bytes begins with, from the assignment at `at`; where its last term goes.
-fn write_let_one(src: &[u8], at: usize, out: &mut [u8], o: usize, n: usize) -> usize
-    requires { ⌜ (at + 16 ≤ length (now src)) × (o + 20 ≤ length (now out)) ⌝ }
-    ensures { λ r. ⌜ (now (out .exit) ≡ put (now (out .entry)) o (letOneHead (now (src .entry)) at n)) × (r ≡ o + letOneSize (ltb (u16At (now (src .entry)) (at + 10)) 18)) ⌝ }
-{
-    put_head(out, o, 37, n);
-    let kind = buffer::get_u16(src, at + 10);
-    if kind < 18 {
-        write_binding(src, at, out, o + 4);
-        return o + 16;
-    }
-    buffer::put_u32(out, o + 4, buffer::get_u32(src, at + 4));
-    put_head(out, o + 8, kind + 16, 12);
-    put_head(out, o + 12, 33, 8);
-    buffer::put_u32(out, o + 16, buffer::get_u32(src, at + 12));
-    o + 20
-}
-
-// The tuple of the variables 1 to k.
-fn write_tuple(out: &mut [u8], o: usize, k: u32)
-    requires { ⌜ (o + (4 + 8 * k) ≤ length (now out)) × (k ≤ 16) ⌝ }
-    ensures { λ _. ⌜ now (out .exit) ≡ put (now (out .entry)) o (allBytes k) ⌝ }
-{
-    put_head(out, o, 36, tuple_size(k));
-    let mut p = o + 4;
-    let mut x = 1;
-    while x <= k {
-        put_head(out, p, 33, 8);
-        buffer::put_u32(out, p + 4, x);
-        p += 8;
-        x += 1;
-    }
 }
 
 fn let_one_size(src: &[u8], at: usize) -> usize
@@ -100,8 +49,8 @@ fn let_one_size(src: &[u8], at: usize) -> usize
     }
 }
 
-// How long the translation of a row is. Commands are met in the order of their bytes, at whatever depth, so this takes no stack:
-// each adds what its translation has besides those of its rows, and each row ends with a tuple.
+// Commands are met in the order of their bytes, at whatever depth, so this needs no stack: each adds what its translation has
+// besides those of its rows, and each row ends with a tuple.
 fn row_size(src: &[u8], from: usize, to: usize, k: u32) -> usize
     requires { ⌜ (RowAt (now src) from to) × (k ≤ 16) ⌝ }
     ensures { λ r. ⌜ ((h : RowAt (now (src .entry)) from to) → r ≡ rowSize k (h .block)) ⌝ }
@@ -125,6 +74,7 @@ fn row_size(src: &[u8], from: usize, to: usize, k: u32) -> usize
     total
 }
 
+// A program that fits a buffer can have a term of 34 times its length: it is measured before a byte is written.
 pub fn translation_size(src: &[u8], used: usize, k: u32) -> usize
     requires { ⌜ ((P : Block) × ProgramIn k P (now src) used) × (length (now src) ≤ 16384) ⌝ }
     ensures { λ r. ⌜ ((P : Block) → ProgramIn k P (now (src .entry)) used → r ≡ length (encodeTerm k (translate k P))) ⌝ }
@@ -132,7 +82,58 @@ pub fn translation_size(src: &[u8], used: usize, k: u32) -> usize
     CONTENTS + row_size(src, CONTENTS + 4, used, k)
 }
 
-// A task with the heads of its block or loop passed, in the source and in the output.
+fn put_head(buf: &mut [u8], at: usize, kind: usize, n: usize)
+    requires { ⌜ at + 4 ≤ length (now buf) ⌝ }
+    ensures { λ _. ⌜ now (buf .exit) ≡ put (now (buf .entry)) at (recordHead kind n) ⌝ }
+{
+    buffer::put_u16(buf, at, n);
+    buffer::put_u16(buf, at + 2, kind);
+}
+
+fn write_tuple(out: &mut [u8], o: usize, k: u32)
+    requires { ⌜ (o + (4 + 8 * k) ≤ length (now out)) × (k ≤ 16) ⌝ }
+    ensures { λ _. ⌜ now (out .exit) ≡ put (now (out .entry)) o (allBytes k) ⌝ }
+{
+    put_head(out, o, 36, tuple_size(k));
+    let mut p = o + 4;
+    let mut x = 1;
+    while x <= k {
+        put_head(out, p, 33, 8);
+        buffer::put_u32(out, p + 4, x);
+        p += 8;
+        x += 1;
+    }
+}
+
+// The variable and the atom of an assignment or a loop. Each number is one move; a copy of all 12 bytes would go byte by byte.
+fn write_binding(src: &[u8], at: usize, out: &mut [u8], o: usize)
+    requires { ⌜ (at + 16 ≤ length (now src)) × (o + 12 ≤ length (now out)) ⌝ }
+    ensures { λ _. ⌜ now (out .exit) ≡ put (now (out .entry)) o (bindingBytes (now (src .entry)) at) ⌝ }
+{
+    buffer::put_u32(out, o, buffer::get_u32(src, at + 4));
+    put_head(out, o + 4, buffer::get_u16(src, at + 10) + 16, 8);
+    buffer::put_u32(out, o + 8, buffer::get_u32(src, at + 12));
+}
+
+// Gives where the let-one's last term goes.
+fn write_let_one(src: &[u8], at: usize, out: &mut [u8], o: usize, n: usize) -> usize
+    requires { ⌜ (at + 16 ≤ length (now src)) × (o + 20 ≤ length (now out)) ⌝ }
+    ensures { λ r. ⌜ (now (out .exit) ≡ put (now (out .entry)) o (letOneHead (now (src .entry)) at n)) × (r ≡ o + letOneSize (ltb (u16At (now (src .entry)) (at + 10)) 18)) ⌝ }
+{
+    put_head(out, o, 37, n);
+    let kind = buffer::get_u16(src, at + 10);
+    if kind < 18 {
+        write_binding(src, at, out, o + 4);
+        return o + 16;
+    }
+    buffer::put_u32(out, o + 4, buffer::get_u32(src, at + 4));
+    put_head(out, o + 8, kind + 16, 12);
+    put_head(out, o + 12, 33, 8);
+    buffer::put_u32(out, o + 16, buffer::get_u32(src, at + 12));
+    o + 20
+}
+
+// A task from the row inside its first command on.
 fn past_heads(src: &[u8], whole: Task, k: u32) -> Task
     requires { ⌜ (TaskIn k (now src) whole) × (whole .from < whole .to) ⌝ }
     ensures { λ r. ⌜ r ≡ pastHeads k (now (src .entry)) whole ⌝ }
@@ -172,7 +173,7 @@ fn cut(task: Task, next: usize, mid: usize) -> Parts
     }
 }
 
-// The two rows of a let-all, and where each goes. Together they fill what its heads leave, so only the shorter is measured.
+// The two rows fill what the heads of the let-all leave, so it is enough to measure the shorter.
 fn rows_of(src: &[u8], whole: Task, k: u32) -> Parts
     requires { ⌜ (TaskIn k (now src) whole) × (whole .from < whole .to) × (u16At (now src) (whole .from + 2) ≡ 2 → ⊥) ⌝ }
     ensures { λ r. ⌜ ((h : TaskIn k (now (src .entry)) whole) → PartsOf k (now (src .entry)) whole (h .row .block) r) ⌝ }
@@ -187,7 +188,7 @@ fn rows_of(src: &[u8], whole: Task, k: u32) -> Parts
     cut(inner, next, whole.stop - size)
 }
 
-// What a let-all begins with; of a loop the rec, whose body is the inner row, is begun too.
+// A loop begins a rec in its let-all, and the inner row is the body of that rec.
 fn write_let_all(src: &[u8], whole: Task, inner: Task, k: u32, out: &mut [u8])
     requires { ⌜ (Opens k (now src) whole inner) × (whole .stop ≤ length (now out)) ⌝ }
     ensures { λ _. ⌜ now (out .exit) ≡ put (now (out .entry)) (whole .start) (letAllHead k (now (src .entry)) (whole .from) (whole .stop - whole .start) (inner .stop - inner .start)) ⌝ }

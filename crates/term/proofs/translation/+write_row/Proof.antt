@@ -1,3 +1,4 @@
+-- What is left to write, stored now, gives the whole; both the loop and the calls go on with a shorter row.
 use Prim.Native.Nat.{ℕ, _<_, _-_}
 use borrow.Fn.Kinds.{In}
 use borrow.Fn.PlainCycle.{Measures, is, falls, and}
@@ -48,78 +49,65 @@ write-row-calls t = (
   write-tuple-reads.Learnt,
 )
 
--- src/translation.rt:211:5
 write-row-loop-holds : (t : ℕ) → write-row-lts.Need-loop-holds (write-row-calls t) (write-row-at t) write-row.Post write-row-Inv-loop write-row-μ-loop
 write-row-loop-holds t c = λ h. left-start h (c .before .before .args .out .now) (c .before .before .pre .1 .1)
 
--- src/translation.rt:212:33
 write-row-add-get-u16 : (t : ℕ) → write-row-lts.Need-add-get-u16 (write-row-calls t) (write-row-at t) write-row.Post write-row-Inv-loop write-row-μ-loop
 write-row-add-get-u16 t c =
     let s = c .before .before .before .loop .inv (c .before .before .before .before .before .before .pre .1 .0) in
     omega (arith, head-room (s .task) (c .before .if1 .taken) .0)
 
--- src/translation.rt:212:12
 write-row-get-u16-requires : (t : ℕ) → write-row-lts.Need-get-u16-requires (write-row-calls t) (write-row-at t) write-row.Post write-row-Inv-loop write-row-μ-loop
 write-row-get-u16-requires t c κs =
     let s = c .before .before .before .loop .inv (c .before .before .before .before .before .before .pre .1 .0) in
     omega (arith, head-room (s .task) (c .before .if1 .taken) .0)
 
--- src/translation.rt:213:73
 write-row-sub-write-let-one : (t : ℕ) → write-row-lts.Need-sub-write-let-one (write-row-calls t) (write-row-at t) write-row.Post write-row-Inv-loop write-row-μ-loop
 write-row-sub-write-let-one t c =
     let s = c .before .before .before .before .before .before .before .loop .inv (c .before .before .before .before .before .before .before .before .before .before .pre .1 .0) in
     omega (arith, head-room (s .task) (c .before .before .before .before .before .if1 .taken) .1)
 
--- src/translation.rt:213:13
 write-row-write-let-one-requires : (t : ℕ) → write-row-lts.Need-write-let-one-requires (write-row-calls t) (write-row-at t) write-row.Post write-row-Inv-loop write-row-μ-loop
 write-row-write-let-one-requires t c κs =
     let s = c .before .before .before .before .before .before .before .loop .inv (c .before .before .before .before .before .before .before .before .before .before .pre .1 .0) in
     one-room s (c .before .before .before .before .before .if1 .taken) (sym (c .before .before .before .get-u16 .ensures .0) ∙ c .before .before .if2 .taken)
 
--- src/translation.rt:214:13
 write-row-add-left : (t : ℕ) → write-row-lts.Need-add-left (write-row-calls t) (write-row-at t) write-row.Post write-row-Inv-loop write-row-μ-loop
 write-row-add-left t c =
     let s = c .before .before .before .before .before .before .before .before .before .before .before .loop .inv (c .before .before .before .before .before .before .before .before .before .before .before .before .before .before .pre .1 .0) in
     omega (arith, one-room s (c .before .before .before .before .before .before .before .before .before .if1 .taken) (sym (c .before .before .before .before .before .before .before .get-u16 .ensures .0) ∙ c .before .before .before .before .before .before .if2 .taken) .0)
 
--- src/translation.rt:211:5
 write-row-loop-less : (t : ℕ) → write-row-lts.Need-loop-less (write-row-calls t) (write-row-at t) write-row.Post write-row-Inv-loop write-row-μ-loop
 write-row-loop-less t c =
     let test = c .before .before .before .before .before .before .before .before .before .if1 .taken in
     omega arith
 
--- src/translation.rt:211:5
 write-row-loop-again : (t : ℕ) → write-row-lts.Need-loop-again (write-row-calls t) (write-row-at t) write-row.Post write-row-Inv-loop write-row-μ-loop
 write-row-loop-again t c =
     λ h.
     let w = c .before .before .before .write-let-one in
     left-one (c .before .before .before .before .before .before .before .before .before .before .before .loop .inv h) (c .before .before .before .before .before .before .before .before .before .if1 .taken) (sym (c .before .before .before .before .before .before .before .get-u16 .ensures .0) ∙ c .before .before .before .before .before .before .if2 .taken) _ _ _ (w .ensures .0) (w .kept .1 .1 .0) refl (w .ensures .1)
 
--- src/translation.rt:216:17
 write-row-rows-of-requires : (t : ℕ) → write-row-lts.Need-rows-of-requires (write-row-calls t) (write-row-at t) write-row.Post write-row-Inv-loop write-row-μ-loop
 write-row-rows-of-requires t c κs =
     let s = c .before .before .before .before .before .loop .inv (c .before .before .before .before .before .before .before .before .pre .1 .0) in
     (s .task, c .before .before .before .if1 .taken, λ e. c .if2 .left (c .before .get-u16 .ensures .0 ∙ e))
 
--- src/translation.rt:219:13
 write-row-write-let-all-requires : (t : ℕ) → write-row-lts.Need-write-let-all-requires (write-row-calls t) (write-row-at t) write-row.Post write-row-Inv-loop write-row-μ-loop
 write-row-write-let-all-requires t c κs =
     let s = c .before .before .before .before .before .before .before .before .before .loop .inv (c .before .before .before .before .before .before .before .before .before .before .before .before .pre .1 .0) in
     (c .before .before .before .rows-of .ensures (s .task) .opens, s .fits)
 
--- src/translation.rt:220:16
 write-row-sub-if3 : (t : ℕ) → write-row-lts.Need-sub-if3 (write-row-calls t) (write-row-at t) write-row.Post write-row-Inv-loop write-row-μ-loop
 write-row-sub-if3 t c =
     let s = c .before .before .before .before .before .before .before .before .before .before .before .before .before .loop .inv (c .before .before .before .before .before .before .before .before .before .before .before .before .before .before .before .before .pre .1 .0) in
     omega (arith, c .before .before .before .before .before .before .before .rows-of .ensures (s .task) .inner .row .ends)
 
--- src/translation.rt:220:41
 write-row-sub-if3-2 : (t : ℕ) → write-row-lts.Need-sub-if3-2 (write-row-calls t) (write-row-at t) write-row.Post write-row-Inv-loop write-row-μ-loop
 write-row-sub-if3-2 t c =
     let s = c .before .before .before .before .before .before .before .before .before .before .before .before .before .before .loop .inv (c .before .before .before .before .before .before .before .before .before .before .before .before .before .before .before .before .before .pre .1 .0) in
     omega (arith, c .before .before .before .before .before .before .before .before .rows-of .ensures (s .task) .rest .row .ends)
 
--- src/translation.rt:221:17
 write-row-write-row-requires : (t : ℕ) → write-row-lts.Need-write-row-requires (write-row-calls t) (write-row-at t) write-row.Post write-row-Inv-loop write-row-μ-loop
 write-row-write-row-requires t c κs =
     let t₀ = c .before .before .before .before .before .before .before .before .before .before .before .before .before .before .before .before .before .before .before .pre .0 in
@@ -129,14 +117,12 @@ write-row-write-row-requires t c κs =
     let high = s .high in
     (omega (arith, q .past, q .next, q .end, q .inner .row .ends, q .rest .row .ends), (q .inner, omega (arith, q .opens .fits, s .fits, c .before .before .before .before .before .before .write-let-all .kept .1 .1 .1 .1 .0)))
 
--- src/translation.rt:211:5
 write-row-loop-less-2 : (t : ℕ) → write-row-lts.Need-loop-less-2 (write-row-calls t) (write-row-at t) write-row.Post write-row-Inv-loop write-row-μ-loop
 write-row-loop-less-2 t c =
     let s = c .before .before .before .before .before .before .before .before .before .before .before .before .before .before .before .before .before .before .before .loop .inv (c .before .before .before .before .before .before .before .before .before .before .before .before .before .before .before .before .before .before .before .before .before .before .pre .1 .0) in
     let q = c .before .before .before .before .before .before .before .before .before .before .before .before .before .rows-of .ensures (s .task) in
     omega (arith, q .past, q .next, q .end, q .inner .row .ends, q .rest .row .ends)
 
--- src/translation.rt:211:5
 write-row-loop-again-2 : (t : ℕ) → write-row-lts.Need-loop-again-2 (write-row-calls t) (write-row-at t) write-row.Post write-row-Inv-loop write-row-μ-loop
 write-row-loop-again-2 t c =
     λ h.
@@ -144,7 +130,6 @@ write-row-loop-again-2 t c =
     let q = c .before .before .before .before .before .before .before .before .before .before .before .before .before .rows-of .ensures (s .task) in
     left-rest s q _ (c .before .before .before .before .before .before .before .before .before .write-let-all .ensures) (c .before .before .before .before .before .before .before .before .before .write-let-all .kept .1 .1 .1 .1 .0) _ (c .before .before .write-row .ensures (q .inner)) (c .before .before .write-row .kept .1 .1 .1 .0)
 
--- src/translation.rt:224:17
 write-row-write-row-requires-2 : (t : ℕ) → write-row-lts.Need-write-row-requires-2 (write-row-calls t) (write-row-at t) write-row.Post write-row-Inv-loop write-row-μ-loop
 write-row-write-row-requires-2 t c κs =
     let t₀ = c .before .before .before .before .before .before .before .before .before .before .before .before .before .before .before .before .before .before .before .pre .0 in
@@ -154,14 +139,12 @@ write-row-write-row-requires-2 t c κs =
     let high = s .high in
     (omega (arith, q .past, q .next, q .end, q .inner .row .ends, q .rest .row .ends), (q .rest, omega (arith, q .stop, s .fits, c .before .before .before .before .before .before .write-let-all .kept .1 .1 .1 .1 .0)))
 
--- src/translation.rt:211:5
 write-row-loop-less-3 : (t : ℕ) → write-row-lts.Need-loop-less-3 (write-row-calls t) (write-row-at t) write-row.Post write-row-Inv-loop write-row-μ-loop
 write-row-loop-less-3 t c =
     let s = c .before .before .before .before .before .before .before .before .before .before .before .before .before .before .before .before .before .before .before .loop .inv (c .before .before .before .before .before .before .before .before .before .before .before .before .before .before .before .before .before .before .before .before .before .before .pre .1 .0) in
     let q = c .before .before .before .before .before .before .before .before .before .before .before .before .before .rows-of .ensures (s .task) in
     omega (arith, q .past, q .next, q .end, q .inner .row .ends, q .rest .row .ends)
 
--- src/translation.rt:211:5
 write-row-loop-again-3 : (t : ℕ) → write-row-lts.Need-loop-again-3 (write-row-calls t) (write-row-at t) write-row.Post write-row-Inv-loop write-row-μ-loop
 write-row-loop-again-3 t c =
     λ h.
@@ -169,18 +152,15 @@ write-row-loop-again-3 t c =
     let q = c .before .before .before .before .before .before .before .before .before .before .before .before .before .rows-of .ensures (s .task) in
     left-inner s q _ (c .before .before .before .before .before .before .before .before .before .write-let-all .ensures) (c .before .before .before .before .before .before .before .before .before .write-let-all .kept .1 .1 .1 .1 .0) _ (c .before .before .write-row2 .ensures (q .rest)) (c .before .before .write-row2 .kept .1 .1 .1 .0)
 
--- src/translation.rt:229:5
 write-row-write-tuple-requires : (t : ℕ) → write-row-lts.Need-write-tuple-requires (write-row-calls t) (write-row-at t) write-row.Post write-row-Inv-loop write-row-μ-loop
 write-row-write-tuple-requires t c κs =
     let s = c .before .before .before .loop .inv (c .before .before .before .before .before .before .pre .1 .0) in
     (end-room s, s .task .few)
 
--- src/translation.rt:206:1
 write-row-same-length : (t : ℕ) → write-row-lts.Need-same-length (write-row-calls t) (write-row-at t) write-row.Post write-row-Inv-loop write-row-μ-loop
 write-row-same-length t c =
     c .before .before .write-tuple .kept .0 ∙ c .before .before .before .before .before .before .loop .inv (c .before .before .before .before .before .before .before .before .before .pre .1 .0) .kept
 
--- src/translation.rt:206:1
 write-row-returns : (t : ℕ) → write-row-lts.Need-returns (write-row-calls t) (write-row-at t) write-row.Post write-row-Inv-loop write-row-μ-loop
 write-row-returns t c =
     λ h. c .before .before .write-tuple .ensures ∙ left-end (c .before .before .before .before .before .before .loop .inv h) (c .before .before .before .before .if1 .left)

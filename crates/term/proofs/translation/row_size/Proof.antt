@@ -1,10 +1,6 @@
+-- What was counted and what is left make up the translation, and one tuple more; nothing counted comes near a wrap.
 use Rattle.term.proofs.translation.row_size.Statement.{statement}
 use Rattle.term.proofs.translation.row_size.Tie as tie
-use Rattle.term.proofs.translation.row_size.Reads as reads
-use Rattle.term.proofs.translation.row_size.Lts as lts
-use Rattle.buffer.proofs.get_u16.Reads as get-u16-reads
-use Rattle.term.proofs.translation.let_one_size.Reads as let-one-size-reads
-use Rattle.term.proofs.translation.tuple_size.Reads as tuple-size-reads
 use native.Mathlib.Omega.{arith}
 use mathlib.Core.Path.{sym, _∙_}
 use Prim.Native.Nat.{_-_}
@@ -19,35 +15,29 @@ Inv-loop src from to k tuple total₀ at₀ total at = (h : RowAt src from to) �
 abbrev μ-loop : tie.MeasureT-loop
 μ-loop src from to k tuple total₀ at₀ total at = to - at
 
--- src/translation.rt:96:9
 tuple-size-requires : tie.Need-tuple-size-requires Inv-loop μ-loop
 tuple-size-requires c κs = tt
 
--- src/translation.rt:99:5
 loop-holds : tie.Need-loop-holds Inv-loop μ-loop
 loop-holds c =
     λ h. rw (c .tuple-size .ensures) (scan-start (c .before .before .args .k) (c .before .before .args .src .now) (c .before .before .args .from) (c .before .before .args .to) h)
 
--- src/translation.rt:100:41
 add-get-u16 : tie.Need-add-get-u16 Inv-loop μ-loop
 add-get-u16 c =
     let s = c .before .loop .inv (c .before .before .before .before .pre .0) in
     omega (arith, row-four (s .row) (c .loop-test .taken), row-room (s .row))
 
--- src/translation.rt:100:13
 get-u16-requires : tie.Need-get-u16-requires Inv-loop μ-loop
 get-u16-requires c κs =
     let s = c .before .loop .inv (c .before .before .before .before .pre .0) in
     omega (arith, row-four (s .row) (c .loop-test .taken), row-room (s .row))
 
--- src/translation.rt:102:22
 let-one-size-requires : tie.Need-let-one-size-requires Inv-loop μ-loop
 let-one-size-requires c κs =
     let s = c .before .before .before .loop .inv (c .before .before .before .before .before .before .pre .0) in
     let f = step-assign (s .row) (c .before .before .loop-test .taken) (c .before .before .before .before .before .before .args .k) (sym (c .before .get-u16 .ensures .0) ∙ c .if1 .taken) in
     omega (arith, f .reach, row-room (s .row))
 
--- src/translation.rt:102:13
 add-total : tie.Need-add-total Inv-loop μ-loop
 add-total c =
     let h = c .before .before .before .before .before .before .before .pre .0 in
@@ -55,38 +45,32 @@ add-total c =
     let f = step-assign (s .row) (c .before .before .before .loop-test .taken) (c .before .before .before .before .before .before .before .args .k) (sym (c .before .before .get-u16 .ensures .0) ∙ c .before .if1 .taken) in
     omega (arith, scan-bound s (c .before .before .before .before .before .before .before .pre .1) (h .here .small) _ _ f, c .let-one-size .ensures)
 
--- src/translation.rt:103:13
 add-at : tie.Need-add-at Inv-loop μ-loop
 add-at c =
     let s = c .before .before .before .before .loop .inv (c .before .before .before .before .before .before .before .pre .0) in
     let f = step-assign (s .row) (c .before .before .before .loop-test .taken) (c .before .before .before .before .before .before .before .args .k) (sym (c .before .before .get-u16 .ensures .0) ∙ c .before .if1 .taken) in
     omega (arith, f .reach, row-room (s .row))
 
--- src/translation.rt:99:5
 loop-less : tie.Need-loop-less Inv-loop μ-loop
 loop-less c =
     let s = c .before .before .before .before .loop .inv (c .before .before .before .before .before .before .before .pre .0) in
     let f = step-assign (s .row) (c .before .before .before .loop-test .taken) (c .before .before .before .before .before .before .before .args .k) (sym (c .before .before .get-u16 .ensures .0) ∙ c .before .if1 .taken) in
     omega (arith, f .reach, row-room (s .row))
 
--- src/translation.rt:99:5
 loop-again : tie.Need-loop-again Inv-loop μ-loop
 loop-again c =
     λ h.
     let s = c .before .before .before .before .loop .inv h in
     scan-step s 16 _ _ (step-assign (s .row) (c .before .before .before .loop-test .taken) (c .before .before .before .before .before .before .before .args .k) (sym (c .before .before .get-u16 .ensures .0) ∙ c .before .if1 .taken)) (c .let-one-size .ensures)
 
--- src/translation.rt:105:27
 mul-total : tie.Need-mul-total Inv-loop μ-loop
 mul-total c =
     omega (arith, c .before .before .before .before .before .tuple-size .ensures, c .before .before .before .before .before .before .before .pre .1)
 
--- src/translation.rt:105:22
 add-total-2 : tie.Need-add-total-2 Inv-loop μ-loop
 add-total-2 c =
     omega (arith, c .before .before .before .before .before .tuple-size .ensures, c .before .before .before .before .before .before .before .pre .1)
 
--- src/translation.rt:105:13
 add-total-3 : tie.Need-add-total-3 Inv-loop μ-loop
 add-total-3 c =
     let h = c .before .before .before .before .before .before .before .pre .0 in
@@ -94,33 +78,28 @@ add-total-3 c =
     let f = step-loop (s .row) (c .before .before .before .loop-test .taken) (c .before .before .before .before .before .before .before .args .k) (sym (c .before .before .get-u16 .ensures .0) ∙ c .if2 .taken) in
     omega (arith, scan-bound s (c .before .before .before .before .before .before .before .pre .1) (h .here .small) _ _ f, c .before .before .before .before .before .tuple-size .ensures)
 
--- src/translation.rt:106:13
 add-at-2 : tie.Need-add-at-2 Inv-loop μ-loop
 add-at-2 c =
     let s = c .before .before .before .before .loop .inv (c .before .before .before .before .before .before .before .pre .0) in
     let f = step-loop (s .row) (c .before .before .before .loop-test .taken) (c .before .before .before .before .before .before .before .args .k) (sym (c .before .before .get-u16 .ensures .0) ∙ c .if2 .taken) in
     omega (arith, f .reach, row-room (s .row))
 
--- src/translation.rt:99:5
 loop-less-2 : tie.Need-loop-less-2 Inv-loop μ-loop
 loop-less-2 c =
     let s = c .before .before .before .before .loop .inv (c .before .before .before .before .before .before .before .pre .0) in
     let f = step-loop (s .row) (c .before .before .before .loop-test .taken) (c .before .before .before .before .before .before .before .args .k) (sym (c .before .before .get-u16 .ensures .0) ∙ c .if2 .taken) in
     omega (arith, f .reach, row-room (s .row))
 
--- src/translation.rt:99:5
 loop-again-2 : tie.Need-loop-again-2 Inv-loop μ-loop
 loop-again-2 c =
     λ h.
     let s = c .before .before .before .before .loop .inv h in
     scan-step s 20 _ _ (step-loop (s .row) (c .before .before .before .loop-test .taken) (c .before .before .before .before .before .before .before .args .k) (sym (c .before .before .get-u16 .ensures .0) ∙ c .if2 .taken)) (omega (arith, c .before .before .before .before .before .tuple-size .ensures))
 
--- src/translation.rt:108:22
 add-total-4 : tie.Need-add-total-4 Inv-loop μ-loop
 add-total-4 c =
     omega (arith, c .before .before .before .before .before .tuple-size .ensures, c .before .before .before .before .before .before .before .pre .1)
 
--- src/translation.rt:108:13
 add-total-5 : tie.Need-add-total-5 Inv-loop μ-loop
 add-total-5 c =
     let h = c .before .before .before .before .before .before .before .pre .0 in
@@ -129,19 +108,16 @@ add-total-5 c =
     let f = step-nest (s .row) (c .before .before .before .loop-test .taken) (c .before .before .before .before .before .before .before .args .k) (λ e. c .before .if1 .left (read ∙ e)) (λ e. c .if2 .left (read ∙ e)) in
     omega (arith, scan-bound s (c .before .before .before .before .before .before .before .pre .1) (h .here .small) _ _ f, c .before .before .before .before .before .tuple-size .ensures)
 
--- src/translation.rt:109:13
 add-at-3 : tie.Need-add-at-3 Inv-loop μ-loop
 add-at-3 c =
     let s = c .before .before .before .before .loop .inv (c .before .before .before .before .before .before .before .pre .0) in
     omega (arith, row-four (s .row) (c .before .before .before .loop-test .taken), row-room (s .row))
 
--- src/translation.rt:99:5
 loop-less-3 : tie.Need-loop-less-3 Inv-loop μ-loop
 loop-less-3 c =
     let s = c .before .before .before .before .loop .inv (c .before .before .before .before .before .before .before .pre .0) in
     omega (arith, row-four (s .row) (c .before .before .before .loop-test .taken), row-room (s .row))
 
--- src/translation.rt:99:5
 loop-again-3 : tie.Need-loop-again-3 Inv-loop μ-loop
 loop-again-3 c =
     λ h.
@@ -149,7 +125,6 @@ loop-again-3 c =
     let read = c .before .before .get-u16 .ensures .0 in
     scan-step s 4 _ _ (step-nest (s .row) (c .before .before .before .loop-test .taken) (c .before .before .before .before .before .before .before .args .k) (λ e. c .before .if1 .left (read ∙ e)) (λ e. c .if2 .left (read ∙ e))) (omega (arith, c .before .before .before .before .before .tuple-size .ensures))
 
--- src/translation.rt:92:1
 returns : tie.Need-returns Inv-loop μ-loop
 returns c = λ h. scan-end (c .before .loop .inv h) (c .loop-test .left)
 

@@ -1,68 +1,49 @@
+-- Three stores in a row are the binding.
 use borrow.Author.Needs.{needs}
 use Rattle.term.proofs.translation.write_binding.Statement.{statement}
 use Rattle.term.proofs.translation.write_binding.Tie as tie
-use Rattle.term.proofs.translation.write_binding.Reads as reads
-use Rattle.term.proofs.translation.write_binding.Lts as lts
-use Rattle.buffer.proofs.get_u16.Reads as get-u16-reads
-use Rattle.buffer.proofs.get_u32.Reads as get-u32-reads
-use Rattle.buffer.proofs.put_u32.Reads as put-u32-reads
-use Rattle.term.proofs.translation.put_head.Reads as put-head-reads
 use native.Mathlib.Omega.{arith}
 use Rattle.term.proofs.TranslationHeadsLaws.{binding-stores}
 
--- src/translation.rt:43:50
 add-get-u32 : tie.Need-add-get-u32
 add-get-u32 c = search needs
 
--- src/translation.rt:43:29
 get-u32-requires : tie.Need-get-u32-requires
 get-u32-requires c κs = search needs
 
--- src/translation.rt:43:5
 put-u32-requires : tie.Need-put-u32-requires
 put-u32-requires c κs = search needs
 
--- src/translation.rt:44:19
 add-put-head : tie.Need-add-put-head
 add-put-head c = search needs
 
--- src/translation.rt:44:47
 add-get-u16 : tie.Need-add-get-u16
 add-get-u16 c = search needs
 
--- src/translation.rt:44:26
 get-u16-requires : tie.Need-get-u16-requires
 get-u16-requires c κs = search needs
 
--- src/translation.rt:44:26
 add-put-head-2 : tie.Need-add-put-head-2
 add-put-head-2 c = search needs
 
--- src/translation.rt:44:5
 put-head-requires : tie.Need-put-head-requires
 put-head-requires c κs = search needs
 
--- src/translation.rt:45:26
 add-put-u32 : tie.Need-add-put-u32
 add-put-u32 c = search needs
 
--- src/translation.rt:45:54
 add-get-u32-2 : tie.Need-add-get-u32-2
 add-get-u32-2 c = search needs
 
--- src/translation.rt:45:33
 get-u32-requires-2 : tie.Need-get-u32-requires-2
 get-u32-requires-2 c κs = search needs
 
--- src/translation.rt:45:5
 put-u32-requires-2 : tie.Need-put-u32-requires-2
 put-u32-requires-2 c κs = search needs
 
--- src/translation.rt:39:1
 same-length : tie.Need-same-length
 same-length c = search needs
 
--- src/translation.rt:39:1
 returns : tie.Need-returns
 returns c =
     let a = c .before .before .before .before .before .before .before .before .before .before .before .before .before .before .before .before .before .args in

@@ -1,59 +1,44 @@
+-- The header, the row and the zeros, stored one after the other.
 use borrow.Author.Needs.{needs}
 use Rattle.term.proofs.translation.write_translation.Statement.{statement}
 use Rattle.term.proofs.translation.write_translation.Tie as tie
-use Rattle.term.proofs.translation.write_translation.Reads as reads
-use Rattle.term.proofs.translation.write_translation.Lts as lts
-use Rattle.buffer.proofs.put_u32.Reads as put-u32-reads
-use Rattle.buffer.proofs.zero.Reads as zero-reads
-use Rattle.term.proofs.translation.put_head.Reads as put-head-reads
-use Rattle.term.proofs.translation.translation_size.Reads as translation-size-reads
-use Rattle.term.proofs.translation.write_row.Reads as write-row-reads
 use native.Mathlib.Omega.{arith}
 use mathlib.Core.Path.{_∙_}
 use Rattle.term.proofs.ProgramTaskLaws.{program-task, term-length, term-stores}
 
--- src/translation.rt:241:9
 translation-size-requires : tie.Need-translation-size-requires
 translation-size-requires c κs = search needs
 
--- src/translation.rt:242:5
 put-head-requires : tie.Need-put-head-requires
 put-head-requires c κs =
     omega (arith, c .before .before .before .before .pre .0 .2, term-length (c .before .before .before .before .args .k) (c .before .before .before .before .pre .0 .0))
 
--- src/translation.rt:243:5
 put-u32-requires : tie.Need-put-u32-requires
 put-u32-requires c κs =
     omega (arith, c .before .before .before .before .before .before .before .before .pre .0 .2, term-length (c .before .before .before .before .before .before .before .before .args .k) (c .before .before .before .before .before .before .before .before .pre .0 .0), c .before .before .before .put-head .kept .0)
 
--- src/translation.rt:245:15
 add-zero : tie.Need-add-zero
 add-zero c = search needs
 
--- src/translation.rt:250:5
 write-row-requires : tie.Need-write-row-requires
 write-row-requires c κs =
     let p = c .before .before .before .before .before .before .before .before .before .before .before .before .pre .0 in
     let size = c .before .before .before .before .before .before .before .before .before .translation-size .ensures (p .0) (p .1) in
     (program-task (p .1) (c .before .before .before .before .before .before .before .before .before .before .before .before .pre .1) _ size, omega (arith, p .2, c .before .before .before .before .before .before .before .put-head .kept .0, c .before .before .before .put-u32 .kept .0))
 
--- src/translation.rt:252:30
 sub-zero : tie.Need-sub-zero
 sub-zero c =
     let p = c .before .before .before .before .before .before .before .before .before .before .before .before .before .before .before .before .pre .0 in
     omega (arith, p .2, c .before .before .before .before .before .before .before .before .before .before .before .before .before .translation-size .ensures (p .0) (p .1), c .before .before .before .before .before .before .before .before .before .before .before .put-head .kept .0, c .before .before .before .before .before .before .before .put-u32 .kept .0, c .before .before .before .write-row .kept .1 .1 .1 .0)
 
--- src/translation.rt:252:5
 zero-requires : tie.Need-zero-requires
 zero-requires c κs =
     let p = c .before .before .before .before .before .before .before .before .before .before .before .before .before .before .before .before .pre .0 in
     omega (arith, p .2, c .before .before .before .before .before .before .before .before .before .before .before .before .before .translation-size .ensures (p .0) (p .1), c .before .before .before .before .before .before .before .before .before .before .before .put-head .kept .0, c .before .before .before .before .before .before .before .put-u32 .kept .0, c .before .before .before .write-row .kept .1 .1 .1 .0)
 
--- src/translation.rt:237:1
 same-length : tie.Need-same-length
 same-length c = search needs
 
--- src/translation.rt:237:1
 returns : tie.Need-returns
 returns c =
     λ P h.

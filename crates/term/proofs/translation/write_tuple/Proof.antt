@@ -1,10 +1,6 @@
+-- What is left to write of the atoms, stored now, gives all of them.
 use Rattle.term.proofs.translation.write_tuple.Statement.{statement}
 use Rattle.term.proofs.translation.write_tuple.Tie as tie
-use Rattle.term.proofs.translation.write_tuple.Reads as reads
-use Rattle.term.proofs.translation.write_tuple.Lts as lts
-use Rattle.buffer.proofs.put_u32.Reads as put-u32-reads
-use Rattle.term.proofs.translation.put_head.Reads as put-head-reads
-use Rattle.term.proofs.translation.tuple_size.Reads as tuple-size-reads
 use native.Mathlib.Omega.{arith}
 use mathlib.Core.Path.{_≡_, refl, sym, _∙_, ap}
 use Prim.Native.Nat.{_*_, _+_, _-_, _≤_, ℕ}
@@ -20,48 +16,37 @@ Inv-loop out₀ o k p₀ x₀ out p x =
 abbrev μ-loop : tie.MeasureT-loop
 μ-loop out₀ o k p₀ x₀ out p x = k + 1 - x
 
--- src/translation.rt:72:26
 tuple-size-requires : tie.Need-tuple-size-requires Inv-loop μ-loop
 tuple-size-requires c κs = tt
 
--- src/translation.rt:72:5
 put-head-requires : tie.Need-put-head-requires Inv-loop μ-loop
 put-head-requires c κs = omega arith
 
--- src/translation.rt:73:17
 add-p : tie.Need-add-p Inv-loop μ-loop
 add-p c = omega arith
 
--- src/translation.rt:75:5
 loop-holds : tie.Need-loop-holds Inv-loop μ-loop
 loop-holds c = (omega arith, omega arith, omega arith, refl, refl)
 
--- src/translation.rt:76:9
 put-head-requires-2 : tie.Need-put-head-requires-2 Inv-loop μ-loop
 put-head-requires-2 c κs = omega (arith, c .before .before .before .before .before .put-head .kept .0)
 
--- src/translation.rt:77:30
 add-put-u32 : tie.Need-add-put-u32 Inv-loop μ-loop
 add-put-u32 c = omega arith
 
--- src/translation.rt:77:9
 put-u32-requires : tie.Need-put-u32-requires Inv-loop μ-loop
 put-u32-requires c κs =
     omega (arith, c .before .before .before .before .before .before .before .before .before .put-head .kept .0, c .before .before .before .put-head2 .kept .0)
 
--- src/translation.rt:78:9
 add-p-2 : tie.Need-add-p-2 Inv-loop μ-loop
 add-p-2 c = omega arith
 
--- src/translation.rt:79:9
 add-x : tie.Need-add-x Inv-loop μ-loop
 add-x c = omega arith
 
--- src/translation.rt:75:5
 loop-less : tie.Need-loop-less Inv-loop μ-loop
 loop-less c = omega arith
 
--- src/translation.rt:75:5
 loop-again : tie.Need-loop-again Inv-loop μ-loop
 loop-again c =
     let l = c .before .before .before .before .before .before .before .before .before .loop in
@@ -70,11 +55,9 @@ loop-again c =
     let turn = atoms-turn (l .out) _ _ (l .p) (l .x) (c .before .before .before .before .before .before .before .before .before .before .before .before .before .before .before .before .args .k) (omega arith) (omega arith) (c .before .before .before .before .before .before .put-head2 .ensures) (c .before .before .put-u32 .ensures) in
     (omega arith, omega arith, omega arith, c .before .before .put-u32 .kept .0 ∙ c .before .before .before .before .before .before .put-head2 .kept .0 ∙ l .inv .3, turn ∙ l .inv .4)
 
--- src/translation.rt:68:1
 same-length : tie.Need-same-length Inv-loop μ-loop
 same-length c = c .before .loop .inv .3 ∙ c .before .before .before .before .put-head .kept .0
 
--- src/translation.rt:68:1
 returns : tie.Need-returns Inv-loop μ-loop
 returns c =
     let a = c .before .before .before .before .before .before .before .before .args in
