@@ -18,3 +18,5 @@ pub mod SourceKindLaws
 pub mod TermSubstitutionLaws
 pub mod TermRecordLaws
 pub mod NumeralsLaws
+pub mod RecordPlaceLaws
+pub mod TranslatedLaws

@@ -17,3 +17,17 @@ written-padded out out₁ out₂ bytes n e h e₁ e₂ =
     s ∙ put-put out bytes z 0 (length bytes) (omega arith) (omega arith)
     ∙ put-re out [] out [] (bytes ++ z) 0 (sym (append-nil out)) refl (omega (arith, length-append bytes z, length-zeros (length out - length bytes)))
     ∙ append-nil (bytes ++ z)
+
+-- a store over the whole of a list is all that is left
+put-whole : (l vs : List ℕ) → length vs ≡ length l → put l 0 vs ≡ vs
+put-whole l vs e = put-re l [] l [] vs 0 (sym (append-nil l)) refl (sym e) ∙ append-nil vs
+
+padded-zeros : (n m : ℕ) (bytes : List ℕ) → length bytes ≡ m → padded n bytes ≡ bytes ++ zeros (n - m)
+unfolding padded zeros
+padded-zeros n m bytes e = rw e refl
+
+pub put-padded : (l bytes : List ℕ) (m : ℕ) → length bytes ≡ m → m ≤ length l → put (put l 0 bytes) m (zeros (length l - m)) ≡ padded (length l) bytes
+put-padded l bytes m e h =
+    let z : List ℕ = zeros (length l - m) in
+    let n : length (bytes ++ z) ≡ length l = length-append bytes z ∙ omega (arith, length-zeros (length l - m)) in
+    put-put l bytes z 0 m (omega arith) h ∙ put-whole l (bytes ++ z) n ∙ sym (padded-zeros (length l) m bytes e)

@@ -11,3 +11,11 @@ pub mod RangedLaws
 pub mod SubstituteAtLaws
 pub mod ClosedLaws
 pub mod NumeralsLaws
+pub mod RowTranslationLaws
+pub mod StoresLaws
+pub mod TranslationHeadsLaws
+pub mod TupleLaws
+pub mod RowViewLaws
+pub mod RowScanLaws
+pub mod TaskLaws
+pub mod ProgramTaskLaws

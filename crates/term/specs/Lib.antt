@@ -7,3 +7,7 @@ pub mod Values
 pub mod Ranged
 pub mod BoundAtom
 pub mod Marks
+pub mod RowTranslation
+pub mod TranslationHeads
+pub mod TranslationTasks
+pub mod RowScan
