@@ -5,5 +5,4 @@ pub mod numerals;
 pub mod path;
 pub mod substitution;
 pub mod values;
-// Work on checked records: each function says of its input what the checker has found of it.
 pub mod translation;
