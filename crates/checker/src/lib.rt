@@ -25,7 +25,7 @@ pub struct Checked {
     pub k: u32,
 }
 
-pub fn worst(a: Verdict, b: Verdict) -> Verdict
+fn worst(a: Verdict, b: Verdict) -> Verdict
     ensures { λ r. ⌜ r ≡ worse a b ⌝ }
 {
     match a {
@@ -39,7 +39,7 @@ pub fn worst(a: Verdict, b: Verdict) -> Verdict
     }
 }
 
-pub fn number_of(v: Verdict) -> u32
+fn number_of(v: Verdict) -> u32
     ensures { λ r. ⌜ r ≡ numberOf v ⌝ }
 {
     match v {
@@ -49,7 +49,7 @@ pub fn number_of(v: Verdict) -> u32
     }
 }
 
-pub fn check_variable(x: u32, k: u32) -> Verdict
+fn check_variable(x: u32, k: u32) -> Verdict
     ensures { λ r. ⌜ r ≡ rated (inRange k x) ⌝ }
 {
     if x < 1 {
@@ -62,7 +62,7 @@ pub fn check_variable(x: u32, k: u32) -> Verdict
 }
 
 // A refusal gives no k.
-pub fn answer(number: u32, k: u32) -> Checked
+fn answer(number: u32, k: u32) -> Checked
     ensures { λ r. ⌜ asChecked r ≡ checkedBy number k ⌝ }
 {
     if number == 0 {
@@ -76,7 +76,7 @@ pub fn answer(number: u32, k: u32) -> Checked
 }
 
 // The first of rows 1 to 3 that applies to a record of this kind; 0 where none does.
-pub fn check_header(buf: &[u8], used: usize, kind: usize) -> u32
+fn check_header(buf: &[u8], used: usize, kind: usize) -> u32
     ensures { λ r. ⌜ r ≡ headerRow kind (now (buf .entry)) used ⌝ }
 {
     if 16384 < buf.len() {

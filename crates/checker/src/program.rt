@@ -120,7 +120,7 @@ fn open_command(s: &[u8], k: u32) -> Head
 }
 
 // The contents of a block's record: its commands in a row, from `at` up to `end` those that are left to check.
-pub fn check_block(s: &[u8], k: u32) -> Verdict
+fn check_block(s: &[u8], k: u32) -> Verdict
     ensures { λ r. ⌜ r ≡ blockVerdict k (decodeBlock (now (s .entry))) ⌝ }
 {
     let mut found = Verdict::Good;

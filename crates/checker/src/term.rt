@@ -140,7 +140,7 @@ fn open_term(s: &[u8], k: u32) -> Opened
 
 // Of a let-all's two terms the shorter is checked by a call and the longer by the next turn, so the calls nest no deeper
 // than the logarithm of the length.
-pub fn check_term_contents(s: &[u8], k: u32) -> Verdict
+fn check_term_contents(s: &[u8], k: u32) -> Verdict
     ensures { λ r. ⌜ r ≡ termVerdict k (termIn k (now (s .entry))) ⌝ }
 {
     let mut found = Verdict::Good;

@@ -20,3 +20,4 @@ pub mod TermRecordLaws
 pub mod NumeralsLaws
 pub mod RecordPlaceLaws
 pub mod TranslatedLaws
+pub mod ProgramNumberLaws

@@ -15,10 +15,10 @@ use Rattle.record.specs.Program.{blockSize, boundKind, boundNumber, exprKind, e
 use Rattle.buffer.specs.Slice.{part}
 use Rattle.rules.specs.FreeVariables.{here}
 use Rattle.rules.specs.Rules.{at}
-use Rattle.rules.specs.Scope.{BlockWithin, BoundWithin, ExprWithin, Within}
+use Rattle.rules.specs.Scope.{BlockWithin, BoundWithin, ExprWithin}
 use Rattle.rules.specs.Step.{boundValue}
 use Rattle.rules.specs.Store.{fitsWord, lookup, minusOne}
-use Rattle.rules.specs.Syntax.{Block, Bound, Expr, assign, dec, empty, inc, lit, loop, nest, upto, uptoVar, var}
+use Rattle.rules.specs.Syntax.{Block, Bound, Expr, assign, empty, loop, nest}
 use Rattle.place.proofs.NestingLaws.{plug-keeps}
 use Rattle.place.proofs.PathLaws.{plug-spot, spot-at, spot-is, spot-some}
 use Rattle.place.proofs.ProgramBytesLaws.{blockSize-zero, kind-dec, kind-inc, kind-lit, kind-var}
@@ -62,30 +62,7 @@ module _ (levels at x : ℕ) (e : Expr) (s : List ℕ) where
       ∙ ap (planRaise levels at x (suc (lookup s (exprNumber e)))) (below-fitsWord (suc (lookup s (exprNumber e))) (omega arith))
       ∙ ap (λ (m : ℕ). plan levels at Literal x m 0 0) n
 
--- a variable's number is in range
-pub expr-variable : (k : ℕ) (e : Expr) → (exprKind e ≡ 16 → ⊥) → ExprWithin k e → Within k (exprNumber e)
-unfolding exprKind exprNumber
-expr-variable k (lit n) h w = absurd (h refl)
-expr-variable k (var x) h w = w
-expr-variable k (inc x) h w = w
-expr-variable k (dec x) h w = w
-
 -- LOOPS
-
-pub bound-variable : (k : ℕ) (b : Bound) → (boundKind b ≡ 16 → ⊥) → BoundWithin k b → Within k (boundNumber b)
-unfolding boundKind boundNumber
-bound-variable k (upto n) h w = absurd (h refl)
-bound-variable k (uptoVar x) h w = w
-
-pub bound-literal : (s : List ℕ) (b : Bound) → boundKind b ≡ 16 → boundNumber b ≡ boundValue s b
-unfolding boundKind boundNumber boundValue
-bound-literal s (upto n) h = refl
-bound-literal s (uptoVar x) h = absurd (omega arith)
-
-pub bound-lookup : (s : List ℕ) (b : Bound) → (boundKind b ≡ 16 → ⊥) → lookup s (boundNumber b) ≡ boundValue s b
-unfolding boundKind boundNumber boundValue
-bound-lookup s (upto n) h = absurd (h refl)
-bound-lookup s (uptoVar x) h = refl
 
 pub plan-stop : (levels at x n v : ℕ) → v ≡ 0 → planLoop levels at x n v ≡ plan levels at Stop x 0 0 (16 + n)
 unfolding planLoop

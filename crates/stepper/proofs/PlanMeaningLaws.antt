@@ -59,9 +59,11 @@ module _ (s : List ℕ) (levels p : ℕ) where
   unfolding planLoop step stepBlock unrollLoop
   tells-loop x n c r zero e =
       (at (nest empty r) s, ap (λ m. next (at (unrollLoop x m c r) s)) e, omega (arith, blockSize-loop x n c r, blockSize-nest empty r, blockSize-empty))
-  tells-loop x n c r (suc q) e =
-      (at (nest (loop x (upto q) c (assign x (lit (suc q)) c)) r) s, ap (λ m. next (at (unrollLoop x m c r) s)) e,
-      omega (arith, blockSize-loop x n c r, blockSize-nest (loop x (upto q) c (assign x (lit (suc q)) c)) r, blockSize-loop x (upto q) c (assign x (lit (suc q)) c), blockSize-assign x (lit (suc q)) c))
+  tells-loop x n c r (suc q) e = (
+    at (nest (loop x (upto q) c (assign x (lit (suc q)) c)) r) s,
+    ap (λ m. next (at (unrollLoop x m c r) s)) e,
+    omega (arith, blockSize-loop x n c r, blockSize-nest (loop x (upto q) c (assign x (lit (suc q)) c)) r, blockSize-loop x (upto q) c (assign x (lit (suc q)) c), blockSize-assign x (lit (suc q)) c),
+  )
 
   tells-spot : (b : Block) → Spot b → TellsSpot s b (planSpot levels p b s) ((planSpot levels p b s) .rule)
   unfolding planSpot
@@ -87,9 +89,11 @@ module _ (k : ℕ) (P : Block) (s : List ℕ) (some : 0 < blockSize P) (q : Plan
   next-whole : NextSpot s (spot P) q → NextOf k P s q
   next-whole h =
       let e : step fitsWord (at P s) ≡ next (plugConfig (path P) (h .0)) = step-spot fitsWord P s some ∙ ap (onNext (plugConfig (path P))) (h .1) ∙ onNext-next (plugConfig (path P)) (h .0) in
-      let was : blockSize P ≡ blockSize (spot P) + around blocks (path P) = ap blockSize (sym (plug-spot P)) ∙ blockSize-plug (path P) (spot P) in
-      (plugConfig (path P) (h .0), e,
-      omega (arith, length-encodeProgram k (plug blocks (path P) (h .0 .block)), length-encodeProgram k P, blockSize-plug (path P) (h .0 .block), h .2))
+      let was : blockSize P ≡ blockSize (spot P) + around blocks (path P) = ap blockSize (sym (plug-spot P)) ∙ blockSize-plug (path P) (spot P) in (
+        plugConfig (path P) (h .0),
+        e,
+        omega (arith, length-encodeProgram k (plug blocks (path P) (h .0 .block)), length-encodeProgram k P, blockSize-plug (path P) (h .0 .block), h .2),
+      )
     where
       onNext-next : (f : Config → Config) (d : Config) → onNext f (next d) ≡ next (f d)
       onNext-next f d = unfold onNext in refl

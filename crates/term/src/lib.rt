@@ -1,8 +1,8 @@
 // The inner functions of the calls on terms: they work on checked input, so that a caller can check once.
-pub mod read_back;
 pub mod closed;
 pub mod numerals;
 pub mod path;
+pub mod read_back;
 pub mod substitution;
-pub mod values;
 pub mod translation;
+pub mod values;

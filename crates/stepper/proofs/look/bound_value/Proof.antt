@@ -6,7 +6,7 @@ use Rattle.run.proofs.value.value_of.Reads as value-of-reads
 use mathlib.Core.Path.{_≡_, refl, sym, ap, _∙_}
 use native.Mathlib.Omega.{arith}
 use Rattle.rules.specs.Store.{lookup}
-use Rattle.stepper.proofs.LookLaws.{bound-literal, bound-lookup, bound-variable}
+use Rattle.place.proofs.ProgramNumberLaws.{bound-literal, bound-lookup, bound-variable}
 
 -- src/look.rt:72:37
 value-of-requires : tie.Need-value-of-requires

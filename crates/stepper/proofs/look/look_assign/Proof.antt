@@ -15,7 +15,8 @@ use Rattle.rules.specs.Store.{lookup, minusOne}
 use Rattle.stepper.specs.Plan.{plan}
 use Rattle.place.proofs.ProgramBytesLaws.{exprKind-range}
 use Rattle.record.specs.Program.{exprKind, exprNumber}
-use Rattle.stepper.proofs.LookLaws.{assign-read, plan-lit, plan-var, plan-dec, plan-over, plan-inc, expr-variable}
+use Rattle.stepper.proofs.LookLaws.{assign-read, plan-lit, plan-var, plan-dec, plan-over, plan-inc}
+use Rattle.place.proofs.ProgramNumberLaws.{expr-variable}
 
 -- src/look.rt:47:41
 add-get-u32 : tie.Need-add-get-u32
