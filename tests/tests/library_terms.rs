@@ -2,8 +2,9 @@
 //! Every call goes through `both`, which compares; `terms.rs` and `figures.rs` state what 01 says.
 
 use other::both::{read_back, result, substitute, translate};
+use other::calls::Written;
 use other::codec::Record;
-use other::examples::{sample_programs, sample_terms};
+use other::examples::{row_of_blocks, sample_programs, sample_terms};
 use other::generate::lend;
 use other::generate::lending::{
     lending, lent_store, output_room, perhaps_damaged, sound_program, sound_term,
@@ -12,7 +13,7 @@ use other::generate::lending::{
 use other::generate::programs::store;
 use other::random::{cases, Counts, Random};
 use other::translate::translate as translation_of;
-use other::tree::{Atom, Term, TermRecord};
+use other::tree::{with_big_stack, Atom, Term, TermRecord};
 
 /// An output buffer with something in it.
 fn output(random: &mut Random, wanted: usize) -> Vec<u8> {
@@ -140,6 +141,27 @@ fn each_change(bytes: &[u8], test: impl Fn(&[u8])) {
             test(&changed);
         }
     }
+}
+
+/// Terms that are longer than 16 bits can say, of every k and of many lengths: among them are some
+/// whose length would fit if it were cut to 16 bits. A row of n empty blocks at k is 12 + 4·n bytes,
+/// and its term 8 + (8 + 8·k)·n + 4 + 8·k.
+#[test]
+fn terms_of_more_than_65535_bytes() {
+    let would_fit = Counts::<1>::default();
+    with_big_stack(|| {
+        for k in 1..=16 {
+            for blocks in (65_536 / (8 + 8 * k)..=4_093).step_by(101) {
+                let len = 12 + (8 + 8 * k) * blocks + 8 * k;
+                let record = row_of_blocks(k as u32, blocks).encode();
+                let mut out = vec![0x5A; 16_384];
+                let written = translate(&record, record.len(), &mut out);
+                assert_eq!(written, Written::refused(10));
+                would_fit.add(0, u32::from(len % 65_536 <= out.len()));
+            }
+        }
+    });
+    would_fit.assert_at_least([50]);
 }
 
 /// The way round through the library alone: program, term, program again, for programs of up to

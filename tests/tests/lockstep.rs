@@ -193,7 +193,7 @@ fn some_room(random: &mut Random, least: usize, extra: usize) -> usize {
 #[test]
 fn totals_that_agree_have_states_that_agree() {
     let seen = Counts::default();
-    cases(8_000, |random| {
+    cases(12_000, |random| {
         let (mut world, list) = generated(random);
         // The empty list is a list as well: both totals are 0.
         world.compare();
@@ -212,7 +212,7 @@ fn totals_that_agree_have_states_that_agree() {
             seen.add(sort, *count);
         }
     });
-    seen.assert_at_least([8_000, 3_000, 2_000, 100, 2_000]);
+    seen.assert_at_least([12_000, 4_500, 3_000, 150, 3_000]);
 }
 
 /// Step by step through the examples: one step of each engine at a time, compared at every total.
