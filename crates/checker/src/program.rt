@@ -132,29 +132,28 @@ fn check_block(s: &[u8], k: u32) -> Verdict
             return Verdict::Malformed;
         }
         let next = at + n;
+        let head = open_command(&s[at..next], k);
+        let verdict = head.verdict;
+        let inner = head.inner;
         if n <= end - next {
-            found = worst(found, check_command(&s[at..next], k));
+            found = worst(found, check_command(&s[at..next], k, verdict, inner));
             at = next;
         } else {
             found = worst(found, check_block(&s[next..end], k));
-            let head = open_command(&s[at..next], k);
-            let verdict = head.verdict;
             found = worst(found, verdict);
-            at += head.inner;
+            at += inner;
             end = next;
         }
     }
     found
 }
 
-// One command's record, which is a row of one command.
-fn check_command(s: &[u8], k: u32) -> Verdict
-    requires { ⌜ Front (now s) (length (now s)) ⌝ }
+// One command's record, which is a row of one command. Its head is opened by the caller, who needs it in either case: a head
+// here as well would be on the stack once for each level.
+fn check_command(s: &[u8], k: u32, verdict: Verdict, inner: usize) -> Verdict
+    requires { ⌜ Opens k (now s) verdict inner ⌝ }
     ensures { λ r. ⌜ r ≡ blockVerdict k (decodeBlock (now (s .entry))) ⌝ }
 {
-    let head = open_command(s, k);
-    let verdict = head.verdict;
-    let inner = head.inner;
     worst(verdict, check_block(&s[inner..], k))
 }
 

@@ -63,14 +63,14 @@ abbrev check-block-calls : ℕ → check-block-lts.Claims
 check-block-calls t = (
   first-length-reads.Asked,
   first-length-reads.Learnt,
+  open-command-reads.Asked,
+  open-command-reads.Learnt,
   check-command-below t,
   check-command.Post,
   worst-reads.Asked,
   worst-reads.Learnt,
   check-block-below t,
   check-block.Post,
-  open-command-reads.Asked,
-  open-command-reads.Learnt,
 )
 
 check-block-loop-holds : (t : ℕ) → check-block-lts.Need-loop-holds (check-block-calls t) (check-block-at t) check-block.Post check-block-Inv-loop check-block-μ-loop
@@ -98,6 +98,20 @@ check-block-returns t c =
 check-block-add-next : (t : ℕ) → check-block-lts.Need-add-next (check-block-calls t) (check-block-at t) check-block.Post check-block-Inv-loop check-block-μ-loop
 check-block-add-next t c = search needs
 
+check-block-sub-open-command : (t : ℕ) → check-block-lts.Need-sub-open-command (check-block-calls t) (check-block-at t) check-block.Post check-block-Inv-loop check-block-μ-loop
+check-block-sub-open-command t c = search needs
+
+check-block-part-open-command-start : (t : ℕ) → check-block-lts.Need-part-open-command-start (check-block-calls t) (check-block-at t) check-block.Post check-block-Inv-loop check-block-μ-loop
+check-block-part-open-command-start t c = search needs
+
+check-block-part-open-command-end : (t : ℕ) → check-block-lts.Need-part-open-command-end (check-block-calls t) (check-block-at t) check-block.Post check-block-Inv-loop check-block-μ-loop
+check-block-part-open-command-end t c = search needs
+
+check-block-open-command-requires : (t : ℕ) → check-block-lts.Need-open-command-requires (check-block-calls t) (check-block-at t) check-block.Post check-block-Inv-loop check-block-μ-loop
+check-block-open-command-requires t c κs =
+    let l = c .before .before .before .before .before .loop in
+    row-front (c .before .before .before .before .before .before .before .args .k) (c .before .before .before .before .before .before .before .args .s .now) (l .at) (l .end) (l .inv .1) (c .before .before .first-length .result) (c .before .before .first-length .ensures .0) (c .before .if1 .left) (l .inv .0)
+
 check-block-sub-if2 : (t : ℕ) → check-block-lts.Need-sub-if2 (check-block-calls t) (check-block-at t) check-block.Post check-block-Inv-loop check-block-μ-loop
 check-block-sub-if2 t c = search needs
 
@@ -112,9 +126,7 @@ check-block-part-check-command-end t c = search needs
 
 check-block-check-command-requires : (t : ℕ) → check-block-lts.Need-check-command-requires (check-block-calls t) (check-block-at t) check-block.Post check-block-Inv-loop check-block-μ-loop
 check-block-check-command-requires t c κs =
-    let l = c .before .before .before .before .before .before .loop in
-    let front = row-front (c .before .before .before .before .before .before .before .before .args .k) (c .before .before .before .before .before .before .before .before .args .s .now) (l .at) (l .end) (l .inv .1) (c .before .before .before .first-length .result) (c .before .before .before .first-length .ensures .0) (c .before .before .if1 .left) (l .inv .0) in
-    (omega arith, front)
+    (omega arith, c .before .before .open-command .ensures)
 
 check-block-worst-requires : (t : ℕ) → check-block-lts.Need-worst-requires (check-block-calls t) (check-block-at t) check-block.Post check-block-Inv-loop check-block-μ-loop
 check-block-worst-requires t c κs = search needs
@@ -124,15 +136,16 @@ check-block-loop-less t c = search needs
 
 check-block-loop-again : (t : ℕ) → check-block-lts.Need-loop-again (check-block-calls t) (check-block-at t) check-block.Post check-block-Inv-loop check-block-μ-loop
 check-block-loop-again t c =
-    let s = c .before .before .before .before .before .before .before .before .before .before .args .s .now in
-    let l = c .before .before .before .before .before .before .before .before .loop in
-    let n = c .before .before .before .before .before .first-length in (
+    let k = c .before .before .before .before .before .before .before .before .before .before .before .before .args .k in
+    let s = c .before .before .before .before .before .before .before .before .before .before .before .before .args .s .now in
+    let l = c .before .before .before .before .before .before .before .before .before .before .loop in
+    let n = c .before .before .before .before .before .before .before .first-length in (
       omega arith,
       omega arith,
       l .inv .2
-          ∙ ap (worse (l .found)) (row-command (c .before .before .before .before .before .before .before .before .before .before .args .k) s (l .at) (l .end) (l .inv .1) (n .result) (n .ensures .0) (c .before .before .before .before .if1 .left) (l .inv .0))
+          ∙ ap (worse (l .found)) (row-command k s (l .at) (l .end) (l .inv .1) (n .result) (n .ensures .0) (c .before .before .before .before .before .before .if1 .left) (l .inv .0))
           ∙ sym (worse-assoc (l .found) _ _)
-          ∙ ap (λ (v : Verdict). worse v (blockVerdict (c .before .before .before .before .before .before .before .before .before .before .args .k) (decodeBlock (between s (l .at + n .result) (l .end))))) (sym (c .worst .ensures ∙ ap (worse (l .found)) (c .before .check-command .ensures))),
+          ∙ ap (λ (v : Verdict). worse v (blockVerdict k (decodeBlock (between s (l .at + n .result) (l .end))))) (sym (c .worst .ensures ∙ ap (worse (l .found)) (c .before .check-command .ensures))),
     )
 
 check-block-sub-check-block : (t : ℕ) → check-block-lts.Need-sub-check-block (check-block-calls t) (check-block-at t) check-block.Post check-block-Inv-loop check-block-μ-loop
@@ -150,44 +163,31 @@ check-block-check-block-requires t c κs = (omega arith, tt)
 check-block-worst-requires-2 : (t : ℕ) → check-block-lts.Need-worst-requires-2 (check-block-calls t) (check-block-at t) check-block.Post check-block-Inv-loop check-block-μ-loop
 check-block-worst-requires-2 t c κs = search needs
 
-check-block-sub-open-command : (t : ℕ) → check-block-lts.Need-sub-open-command (check-block-calls t) (check-block-at t) check-block.Post check-block-Inv-loop check-block-μ-loop
-check-block-sub-open-command t c = search needs
-
-check-block-part-open-command-start : (t : ℕ) → check-block-lts.Need-part-open-command-start (check-block-calls t) (check-block-at t) check-block.Post check-block-Inv-loop check-block-μ-loop
-check-block-part-open-command-start t c = search needs
-
-check-block-part-open-command-end : (t : ℕ) → check-block-lts.Need-part-open-command-end (check-block-calls t) (check-block-at t) check-block.Post check-block-Inv-loop check-block-μ-loop
-check-block-part-open-command-end t c = search needs
-
-check-block-open-command-requires : (t : ℕ) → check-block-lts.Need-open-command-requires (check-block-calls t) (check-block-at t) check-block.Post check-block-Inv-loop check-block-μ-loop
-check-block-open-command-requires t c κs =
-    let l = c .before .before .before .before .before .before .before .before .before .loop in
-    row-front (c .before .before .before .before .before .before .before .before .before .before .before .args .k) (c .before .before .before .before .before .before .before .before .before .before .before .args .s .now) (l .at) (l .end) (l .inv .1) (c .before .before .before .before .before .before .first-length .result) (c .before .before .before .before .before .before .first-length .ensures .0) (c .before .before .before .before .before .if1 .left) (l .inv .0)
-
 check-block-worst-requires-3 : (t : ℕ) → check-block-lts.Need-worst-requires-3 (check-block-calls t) (check-block-at t) check-block.Post check-block-Inv-loop check-block-μ-loop
 check-block-worst-requires-3 t c κs = search needs
 
 check-block-add-at : (t : ℕ) → check-block-lts.Need-add-at (check-block-calls t) (check-block-at t) check-block.Post check-block-Inv-loop check-block-μ-loop
 check-block-add-at t c =
-    omega (arith, c .before .before .open-command .ensures .least, c .before .before .open-command .ensures .most)
+    omega (arith, c .before .before .before .before .before .open-command .ensures .least, c .before .before .before .before .before .open-command .ensures .most)
 
 check-block-loop-less-2 : (t : ℕ) → check-block-lts.Need-loop-less-2 (check-block-calls t) (check-block-at t) check-block.Post check-block-Inv-loop check-block-μ-loop
 check-block-loop-less-2 t c =
-    omega (arith, c .before .before .open-command .ensures .least, c .before .before .open-command .ensures .most)
+    omega (arith, c .before .before .before .before .before .open-command .ensures .least, c .before .before .before .before .before .open-command .ensures .most)
 
 check-block-loop-again-2 : (t : ℕ) → check-block-lts.Need-loop-again-2 (check-block-calls t) (check-block-at t) check-block.Post check-block-Inv-loop check-block-μ-loop
 check-block-loop-again-2 t c =
-    let s = c .before .before .before .before .before .before .before .before .before .before .before .before .before .before .args .s .now in
-    let l = c .before .before .before .before .before .before .before .before .before .before .before .before .loop in
-    let n = c .before .before .before .before .before .before .before .before .before .first-length in
-    let o = c .before .before .open-command in (
+    let k = c .before .before .before .before .before .before .before .before .before .before .before .before .before .args .k in
+    let s = c .before .before .before .before .before .before .before .before .before .before .before .before .before .args .s .now in
+    let l = c .before .before .before .before .before .before .before .before .before .before .before .loop in
+    let n = c .before .before .before .before .before .before .before .before .first-length in
+    let o = c .before .before .before .before .before .open-command in (
       omega (arith, o .ensures .most),
       omega arith,
       l .inv .2
-          ∙ ap (worse (l .found)) (row-inner (c .before .before .before .before .before .before .before .before .before .before .before .before .before .before .args .k) s (l .at) (l .end) (l .inv .1) (n .result) (n .ensures .0) (c .before .before .before .before .before .before .before .before .if1 .left) (l .inv .0) (o .result .verdict) (o .result .inner) (o .ensures))
-          ∙ reorder (l .found) (o .result .verdict) (blockVerdict (c .before .before .before .before .before .before .before .before .before .before .before .before .before .before .args .k) (decodeBlock (between s (l .at + o .result .inner) (l .at + n .result)))) (blockVerdict (c .before .before .before .before .before .before .before .before .before .before .before .before .before .before .args .k) (decodeBlock (between s (l .at + n .result) (l .end))))
-          ∙ ap (λ (v : Verdict). worse v (blockVerdict (c .before .before .before .before .before .before .before .before .before .before .before .before .before .before .args .k) (decodeBlock (between s (l .at + o .result .inner) (l .at + n .result)))))
-          (sym (c .before .worst3 .ensures ∙ ap (λ (v : Verdict). worse v (o .result .verdict)) (c .before .before .before .before .worst2 .ensures ∙ ap (worse (l .found)) (c .before .before .before .before .before .check-block .ensures)))),
+          ∙ ap (worse (l .found)) (row-inner k s (l .at) (l .end) (l .inv .1) (n .result) (n .ensures .0) (c .before .before .before .before .before .before .before .if1 .left) (l .inv .0) (o .result .verdict) (o .result .inner) (o .ensures))
+          ∙ reorder (l .found) (o .result .verdict) (blockVerdict k (decodeBlock (between s (l .at + o .result .inner) (l .at + n .result)))) (blockVerdict k (decodeBlock (between s (l .at + n .result) (l .end))))
+          ∙ ap (λ (v : Verdict). worse v (blockVerdict k (decodeBlock (between s (l .at + o .result .inner) (l .at + n .result)))))
+          (sym (c .worst3 .ensures ∙ ap (λ (v : Verdict). worse v (o .result .verdict)) (c .before .worst2 .ensures ∙ ap (worse (l .found)) (c .before .before .check-block .ensures)))),
     )
 
 check-block-returns-2 : (t : ℕ) → check-block-lts.Need-returns-2 (check-block-calls t) (check-block-at t) check-block.Post check-block-Inv-loop check-block-μ-loop
@@ -196,41 +196,30 @@ check-block-returns-2 t c =
     sym (l .inv .2 ∙ ap (worse (l .found)) (row-end (c .before .before .before .args .k) (c .before .before .before .args .s .now) (l .at) (l .end) (l .inv .1) (omega arith)) ∙ worse-good (l .found))
 
 abbrev check-command-calls : ℕ → check-command-lts.Claims
-check-command-calls t = (
-  open-command-reads.Asked,
-  open-command-reads.Learnt,
-  check-block-below t,
-  check-block.Post,
-  worst-reads.Asked,
-  worst-reads.Learnt,
-)
-
-check-command-open-command-requires : (t : ℕ) → check-command-lts.Need-open-command-requires (check-command-calls t) (check-command-at t) check-command.Post
-check-command-open-command-requires t c κs = c .before .pre .1
+check-command-calls t = (check-block-below t, check-block.Post, worst-reads.Asked, worst-reads.Learnt)
 
 check-command-sub-check-block : (t : ℕ) → check-command-lts.Need-sub-check-block (check-command-calls t) (check-command-at t) check-command.Post
-check-command-sub-check-block t c = omega (arith, c .open-command .ensures .most)
+check-command-sub-check-block t c = omega (arith, c .before .pre .1 .most)
 
 check-command-part-check-block-start : (t : ℕ) → check-command-lts.Need-part-check-block-start (check-command-calls t) (check-command-at t) check-command.Post
-check-command-part-check-block-start t c = omega (arith, c .open-command .ensures .most)
+check-command-part-check-block-start t c = omega (arith, c .before .pre .1 .most)
 
 check-command-part-check-block-end : (t : ℕ) → check-command-lts.Need-part-check-block-end (check-command-calls t) (check-command-at t) check-command.Post
 check-command-part-check-block-end t c = search needs
 
 check-command-check-block-requires : (t : ℕ) → check-command-lts.Need-check-block-requires (check-command-calls t) (check-command-at t) check-command.Post
 check-command-check-block-requires t c κs =
-    (omega (arith, c .before .open-command .ensures .least, c .before .open-command .ensures .most), tt)
+    (omega (arith, c .before .before .pre .1 .least, c .before .before .pre .1 .most), tt)
 
 check-command-worst-requires : (t : ℕ) → check-command-lts.Need-worst-requires (check-command-calls t) (check-command-at t) check-command.Post
 check-command-worst-requires t c κs = search needs
 
 check-command-returns : (t : ℕ) → check-command-lts.Need-returns (check-command-calls t) (check-command-at t) check-command.Post
 check-command-returns t c =
-    let s = c .before .before .before .before .before .args .s .now in
-    let o = c .before .before .before .open-command in
+    let a = c .before .before .before .before .args in
     c .worst .ensures
-    ∙ ap (worse (o .result .verdict)) (c .before .check-block .ensures ∙ ap (λ (x : List ℕ). blockVerdict (c .before .before .before .before .before .args .k) (decodeBlock x)) (between-rest s (o .result .inner)))
-    ∙ sym (o .ensures .both)
+    ∙ ap (worse (a .verdict)) (c .before .check-block .ensures ∙ ap (λ (x : List ℕ). blockVerdict (a .k) (decodeBlock x)) (between-rest (a .s .now) (a .inner)))
+    ∙ sym (c .before .before .before .before .pre .1 .both)
 
 pub +check-block+check-command-spec : {M : Type 1} → statement M
 +check-block+check-command-spec = close μ-check-block μ-check-command (λ t. check-block-lts.spec (check-block-calls t)
@@ -245,6 +234,10 @@ pub +check-block+check-command-spec : {M : Type 1} → statement M
     (check-block-first-length-requires t)
     (check-block-returns t)
     (check-block-add-next t)
+    (check-block-sub-open-command t)
+    (check-block-part-open-command-start t)
+    (check-block-part-open-command-end t)
+    (check-block-open-command-requires t)
     (check-block-sub-if2 t)
     (check-block-sub-check-command t)
     (check-block-part-check-command-start t)
@@ -258,10 +251,6 @@ pub +check-block+check-command-spec : {M : Type 1} → statement M
     (check-block-part-check-block-end t)
     (check-block-check-block-requires t)
     (check-block-worst-requires-2 t)
-    (check-block-sub-open-command t)
-    (check-block-part-open-command-start t)
-    (check-block-part-open-command-end t)
-    (check-block-open-command-requires t)
     (check-block-worst-requires-3 t)
     (check-block-add-at t)
     (check-block-loop-less-2 t)
@@ -270,7 +259,6 @@ pub +check-block+check-command-spec : {M : Type 1} → statement M
     λ t. check-command-lts.spec (check-command-calls t)
     (check-command-at t)
     check-command.Post
-    (check-command-open-command-requires t)
     (check-command-sub-check-block t)
     (check-command-part-check-block-start t)
     (check-command-part-check-block-end t)
