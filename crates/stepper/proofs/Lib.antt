@@ -1,7 +1,1 @@
 pub mod RunStepperLaws
-pub mod LookLaws
-pub mod EditedLaws
-pub mod PlanLaws
-pub mod StateLaws
-pub mod PerformLaws
-pub mod PlanMeaningLaws

@@ -1,13 +1,2 @@
 pub mod Calls
 pub mod CallMeaning
-pub mod Scan
-pub mod Recognition
-pub mod CommandBytes
-pub mod Values
-pub mod Ranged
-pub mod BoundAtom
-pub mod Marks
-pub mod RowTranslation
-pub mod TranslationHeads
-pub mod TranslationTasks
-pub mod RowScan

@@ -1,8 +1,1 @@
-// The inner functions of the calls on terms: they work on checked input, so that a caller can check once.
-pub mod closed;
-pub mod numerals;
-pub mod path;
-pub mod read_back;
-pub mod substitution;
-pub mod translation;
-pub mod values;
+// The calls on terms. Their definitions are in specs/; the functions that work on checked input are crates of their own.

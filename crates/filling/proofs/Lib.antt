@@ -1,0 +1,6 @@
+pub mod ValuesLaws
+pub mod AtomSubstitutionLaws
+pub mod RangedLaws
+pub mod SubstituteAtLaws
+pub mod ClosedLaws
+pub mod NumeralsLaws

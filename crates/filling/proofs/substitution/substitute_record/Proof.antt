@@ -1,0 +1,45 @@
+-- The term behind the header, substituted, and the zeros behind the record: one law of the record layer.
+use borrow.Author.Needs.{needs}
+use Rattle.filling.proofs.substitution.substitute_record.Statement.{statement}
+use Rattle.filling.proofs.substitution.substitute_record.Tie as tie
+use mathlib.Core.Path.{ap, _∙_}
+use Rattle.buffer.specs.Slice.{put}
+use Rattle.record.specs.Term.{encodeTermRecord}
+use Rattle.record.proofs.WordsLaws.{termSize-substitute}
+use Rattle.rules.specs.Substitution.{Substitution, fromStore, substitute}
+use Rattle.place.proofs.TermRecordLaws.{record-put}
+use Rattle.filling.proofs.RangedLaws.{record-ranged}
+
+from-store-requires : tie.Need-from-store-requires
+from-store-requires c κs = search needs
+
+substitute-at-requires : tie.Need-substitute-at-requires
+substitute-at-requires c κs =
+    ((c .before .before .before .before .pre .0 .0, record-ranged (c .before .before .before .before .pre .0 .1) (c .before .before .before .before .pre .1)), c .from-store .ensures .0)
+
+sub-behind : tie.Need-sub-behind
+sub-behind c = search needs
+
+zero-requires : tie.Need-zero-requires
+zero-requires c κs = search needs
+
+same-length : tie.Need-same-length
+same-length c = search needs
+
+returns : tie.Need-returns
+returns c =
+    λ t h.
+    let f : Substitution = fromStore (c .before .before .before .before .before .before .before .before .before .before .before .args .store .now) in
+    let e = c .before .before .before .before .before .before .substitute-at .ensures t (record-ranged h (c .before .before .before .before .before .before .before .before .before .before .before .pre .1)) ∙ ap (λ (g : Substitution). put (c .before .before .before .before .before .before .before .before .before .before .before .args .buf .now) 8 (encodeTermRecord (substitute g t))) (c .before .before .before .before .before .before .before .from-store .ensures .1) in
+    c .before .before .zero .ensures ∙ record-put h (substitute f t) (termSize-substitute f t) _ e
+
+pub substitute-record-spec : {M : Type 1} → statement M
+substitute-record-spec =
+    tie.close
+    (tie.spec
+    from-store-requires
+    substitute-at-requires
+    sub-behind
+    zero-requires
+    same-length
+    returns)

@@ -1,0 +1,4 @@
+pub mod Values
+pub mod Ranged
+pub mod BoundAtom
+pub mod Marks

@@ -1,0 +1,34 @@
+// All variables free in a term stand on one path: from let-one into its last term, from let-all into its first, from rec
+// into its start tuple, where it ends as at any tuple. So a loop meets them with no stack, and never turns back.
+ghost use mathlib.Core.Path.{_≡_};
+ghost use Prim.Native.Nat.{_+_, _≤_};
+ghost use lib.ListN.{length};
+ghost use Rattle.filling.specs.BoundAtom.{boundAtom};
+use buffer::get_u16;
+
+// Where a record's contents start.
+pub const CONTENTS: usize = 8;
+
+// Kinds, as 01 numbers them.
+pub const NUMERAL: usize = 32;
+
+pub const VARIABLE: usize = 33;
+
+pub const SUCC: usize = 34;
+
+pub const TUPLE: usize = 36;
+
+pub const LET_ONE: usize = 37;
+
+pub const LET_ALL: usize = 38;
+
+// Where the atom stands that the let-one at p binds, or binds succ or pred of: these have a head of their own in front.
+pub fn bound_atom(buf: &[u8], p: usize) -> usize
+    requires { ⌜ p + 12 ≤ length (now buf) ⌝ }
+    ensures { λ r. ⌜ r ≡ boundAtom (now (buf .entry)) p ⌝ }
+{
+    if get_u16(buf, p + 10) < SUCC {
+        return p + 8;
+    }
+    p + 12
+}

@@ -1,0 +1,58 @@
+// A substitution as an array: at index x the value of variable x. Variables run from 1, so index 0 is never read.
+ghost use mathlib.Core.Path.{_≡_};
+ghost use mathlib.Core.List.{List, map};
+ghost use Prim.Native.Nat.{ℕ, _<_, _≤_};
+ghost use lib.ListN.{length};
+ghost use Rattle.place.specs.TermView.{TermAt};
+ghost use Rattle.rules.specs.Store.{wordLimit};
+ghost use Rattle.rules.specs.Substitution.{fromStore, only as onlyOf};
+ghost use Rattle.rules.specs.Syntax.{num, tuple};
+ghost use Rattle.filling.specs.Values.{substitutionOf};
+use crate::numerals::numeral;
+
+// Above every value: a variable with this number stays.
+pub const STAYS: u64 = 4294967296;
+
+// A cast through a function: its contract brings the bound.
+fn wide64(x: u32) -> u64
+    ensures { λ r. ⌜ (r ≡ x) × (r < wordLimit) ⌝ }
+{
+    x as u64
+}
+
+pub fn only(x: usize, v: u32) -> [u64; 17]
+    requires { ⌜ x < 17 ⌝ }
+    ensures { λ r. ⌜ (length r ≡ 17) × (substitutionOf r ≡ onlyOf x v) ⌝ }
+{
+    let mut values = [STAYS; 17];
+    values[x] = wide64(v);
+    values
+}
+
+pub fn from_store(store: &[u32]) -> [u64; 17]
+    requires { ⌜ length (now store) ≤ 16 ⌝ }
+    ensures { λ r. ⌜ (length r ≡ 17) × (substitutionOf r ≡ fromStore (now (store .entry))) ⌝ }
+{
+    let mut values = [STAYS; 17];
+    let mut i = 0;
+    while i < store.len() {
+        values[i + 1] = wide64(store[i]);
+        i += 1;
+    }
+    values
+}
+
+// The same of the numerals of the tuple at an index.
+pub fn from_tuple(buf: &[u8], at: usize, k: u32) -> [u64; 17]
+    requires { ⌜ ((vs : List ℕ) × TermAt (now buf) at k (tuple (map num vs))) × (k ≤ 16) ⌝ }
+    ensures { λ r. ⌜ (length r ≡ 17) × ((vs : List ℕ) → TermAt (now (buf .entry)) at k (tuple (map num vs)) → substitutionOf r ≡ fromStore vs) ⌝ }
+{
+    let mut values = [STAYS; 17];
+    let count = k as usize;
+    let mut i = 0;
+    while i < count {
+        values[i + 1] = wide64(numeral(buf, at + 4, i));
+        i += 1;
+    }
+    values
+}

@@ -1,0 +1,5 @@
+pub mod ScanLaws
+pub mod RecognitionLaws
+pub mod AllLaws
+pub mod CommandLaws
+pub mod WriteLaws

@@ -1,0 +1,269 @@
+// Read-back on checked input. The terms inside a term stand behind its own bytes, so a loop that steps over own bytes meets
+// every term, at whatever depth, in the order of the bytes and with no stack.
+ghost use mathlib.Core.Path.{_≡_};
+ghost use mathlib.Core.Bool.{not};
+ghost use mathlib.Core.List.{List};
+ghost use mathlib.Core.Option.{some};
+ghost use Prim.Native.Nat.{ℕ, _+_, _<_, _≤_};
+ghost use lib.ListN.{length};
+ghost use Rattle.buffer.specs.LittleEndian.{val};
+ghost use Rattle.buffer.specs.Slice.{part, put};
+ghost use Rattle.place.specs.Heads.{recordHead};
+ghost use Rattle.place.specs.TermView.{AtomsAt, TermAt};
+ghost use Rattle.record.specs.Answers.{padded};
+ghost use Rattle.record.specs.Header.{encodeProgram};
+ghost use Rattle.record.specs.Holding.{TermIn};
+ghost use Rattle.record.specs.Rows.{isNone};
+ghost use Rattle.rules.specs.FreeVariables.{allVars};
+ghost use Rattle.rules.specs.ReadBack.{readBack, sameAtoms};
+ghost use Rattle.rules.specs.Syntax.{Atom, Block, Term};
+ghost use Rattle.rules.specs.Translation.{all};
+ghost use Rattle.readback.specs.CommandBytes.{assignBytes, commandsOfAll, leafBytes, loopBytes, ownCommand};
+ghost use Rattle.readback.specs.Recognition.{legal};
+ghost use Rattle.readback.specs.Scan.{TermsAt, ownSize};
+
+// Where the contents of a program's and a term's record start.
+const CONTENTS: usize = 8;
+
+// From a term to the next one met.
+fn own_size(src: &[u8], at: usize, k: u32) -> usize
+    requires { ⌜ ((t : Term) × TermAt (now src) at k t) ⌝ }
+    ensures { λ r. ⌜ ((t : Term) → TermAt (now (src .entry)) at k t → r ≡ ownSize t) ⌝ }
+{
+    let kind = buffer::get_u16(src, at + 2);
+    if kind == 36 {
+        return 4 + 8 * k as usize;
+    }
+    if kind == 37 {
+        if buffer::get_u16(src, at + 10) < 34 {
+            return 16;
+        }
+        return 20;
+    }
+    if kind == 38 {
+        return 4;
+    }
+    20 + 8 * k as usize
+}
+
+fn is_all(src: &[u8], at: usize, k: u32) -> bool
+    requires { ⌜ ((ys : List Atom) × AtomsAt (now src) at ys × (length ys ≡ k)) × (k ≤ 16) ⌝ }
+    ensures { λ r. ⌜ ((ys : List Atom) → AtomsAt (now (src .entry)) at ys → length ys ≡ k → r ≡ sameAtoms ys (all k)) ⌝ }
+{
+    let mut p = at;
+    let mut i = 1;
+    while i <= k {
+        if buffer::get_u16(src, p + 2) != 33 {
+            return false;
+        }
+        if buffer::get_u32(src, p + 4) != i {
+            return false;
+        }
+        p += 8;
+        i += 1;
+    }
+    true
+}
+
+// Whether a translation may have this term here, the terms inside it aside; `first` says that it is a let-all's first term.
+fn is_legal(src: &[u8], at: usize, k: u32, first: bool) -> bool
+    requires { ⌜ ((t : Term) × TermAt (now src) at k t) × (k ≤ 16) ⌝ }
+    ensures { λ r. ⌜ ((t : Term) → TermAt (now (src .entry)) at k t → r ≡ legal k first t) ⌝ }
+{
+    let kind = buffer::get_u16(src, at + 2);
+    if kind == 36 {
+        return is_all(src, at + 4, k);
+    }
+    if kind == 37 {
+        if buffer::get_u16(src, at + 10) < 34 {
+            return true;
+        }
+        return buffer::get_u16(src, at + 14) == 33;
+    }
+    if kind == 38 {
+        return true;
+    }
+    if first {
+        return is_all(src, at + 20, k);
+    }
+    false
+}
+
+pub fn is_translation(src: &[u8], used: usize, k: u32) -> bool
+    requires { ⌜ ((t : Term) × TermIn allVars k t (now src) used) × (length (now src) ≤ 16384) ⌝ }
+    ensures { λ r. ⌜ ((t : Term) → TermIn allVars k t (now (src .entry)) used → r ≡ not (isNone (readBack k t))) ⌝ }
+{
+    let mut first = false;
+    let mut at = CONTENTS;
+    while at < used {
+        if !is_legal(src, at, k, first) {
+            return false;
+        }
+        first = buffer::get_u16(src, at + 2) == 38;
+        at += own_size(src, at, k);
+    }
+    true
+}
+
+// The bytes of commands that come of a term's own bytes. A let-all of a rec has none: the rec stands for the whole loop.
+fn own_command_size(src: &[u8], at: usize) -> usize
+    requires { ⌜ ((k : ℕ) × (t : Term) × TermAt (now src) at k t) ⌝ }
+    ensures { λ r. ⌜ ((k : ℕ) (t : Term) → TermAt (now (src .entry)) at k t → r ≡ length (ownCommand t)) ⌝ }
+{
+    let kind = buffer::get_u16(src, at + 2);
+    if kind == 36 {
+        return 0;
+    }
+    if kind == 37 {
+        return 16;
+    }
+    if kind == 38 {
+        if buffer::get_u16(src, at + 6) == 39 {
+            return 0;
+        }
+        return 4;
+    }
+    20
+}
+
+// The bytes of all commands of the terms between two places.
+fn commands_size(src: &[u8], from: usize, to: usize, k: u32) -> usize
+    requires { ⌜ ((ts : List Term) × TermsAt (now src) k to from ts) × (to ≤ length (now src)) ⌝ }
+    ensures is { λ r. ⌜ ((ts : List Term) → TermsAt (now (src .entry)) k to from ts → r ≡ length (commandsOfAll ts)) ⌝ }
+    ensures low { λ r. ⌜ from + r ≤ to ⌝ }
+{
+    let mut n = 0;
+    let mut at = from;
+    while at < to {
+        n += own_command_size(src, at);
+        at += own_size(src, at, k);
+    }
+    n
+}
+
+// The length of the program's record.
+pub fn source_size(src: &[u8], used: usize, k: u32) -> usize
+    requires { ⌜ ((t : Term) × TermIn allVars k t (now src) used) × (length (now src) ≤ 16384) ⌝ }
+    ensures { λ r. ⌜ ((t : Term) (P : Block) → TermIn allVars k t (now (src .entry)) used → readBack k t ≡ some P → r ≡ length (encodeProgram k P)) ⌝ }
+{
+    CONTENTS + 4 + commands_size(src, CONTENTS, used, k)
+}
+
+fn put_head(out: &mut [u8], at: usize, kind: usize, n: usize)
+    requires { ⌜ at + 4 ≤ length (now out) ⌝ }
+    ensures { λ _. ⌜ now (out .exit) ≡ put (now (out .entry)) at (recordHead kind n) ⌝ }
+{
+    buffer::put_u16(out, at, n);
+    buffer::put_u16(out, at + 2, kind);
+}
+
+fn put_leaf(out: &mut [u8], at: usize, kind: usize, v: u32)
+    requires { ⌜ at + 8 ≤ length (now out) ⌝ }
+    ensures { λ _. ⌜ now (out .exit) ≡ put (now (out .entry)) at (leafBytes kind v) ⌝ }
+{
+    put_head(out, at, kind, 8);
+    buffer::put_u32(out, at + 4, v);
+}
+
+fn put_assign(out: &mut [u8], at: usize, x: u32, kind: usize, v: u32)
+    requires { ⌜ at + 16 ≤ length (now out) ⌝ }
+    ensures { λ _. ⌜ now (out .exit) ≡ put (now (out .entry)) at (assignBytes x kind v) ⌝ }
+{
+    put_head(out, at, 2, 16);
+    buffer::put_u32(out, at + 4, x);
+    put_leaf(out, at + 8, kind, v);
+}
+
+fn put_loop(out: &mut [u8], at: usize, x: u32, kind: usize, v: u32, n: usize)
+    requires { ⌜ (at + 20 ≤ length (now out)) × (n < 65536) ⌝ }
+    ensures { λ _. ⌜ now (out .exit) ≡ put (now (out .entry)) at (loopBytes x kind v n) ⌝ }
+{
+    put_head(out, at, 3, 20 + n);
+    buffer::put_u32(out, at + 4, x);
+    put_leaf(out, at + 8, kind, v);
+    put_head(out, at + 16, 1, 4 + n);
+}
+
+fn write_let_one(src: &[u8], at: usize, k: u32, out: &mut [u8], o: usize)
+    requires { ⌜ ((t : Term) × TermAt (now src) at k t × (o + length (ownCommand t) ≤ length (now out))) × (val (part (now src) (at + 2) 2) ≡ 37) ⌝ }
+    ensures { λ _. ⌜ ((t : Term) → TermAt (now (src .entry)) at k t → now (out .exit) ≡ put (now (out .entry)) o (ownCommand t)) ⌝ }
+{
+    let x = buffer::get_u32(src, at + 4);
+    let kind = buffer::get_u16(src, at + 10) - 16;
+    // A let-one's own bytes end with the number of its atom.
+    let v = buffer::get_u32(src, at + own_size(src, at, k) - 4);
+    put_assign(out, o, x, kind, v);
+}
+
+fn write_let_all(src: &[u8], at: usize, k: u32, out: &mut [u8], o: usize)
+    requires { ⌜ ((t : Term) × TermAt (now src) at k t × (o + length (ownCommand t) ≤ length (now out))) × (val (part (now src) (at + 2) 2) ≡ 38) ⌝ }
+    ensures { λ _. ⌜ ((t : Term) → TermAt (now (src .entry)) at k t → now (out .exit) ≡ put (now (out .entry)) o (ownCommand t)) ⌝ }
+{
+    if buffer::get_u16(src, at + 6) == 39 {
+        return;
+    }
+    let n = commands_size(src, at + 4, at + 4 + buffer::get_u16(src, at + 4), k);
+    put_head(out, o, 1, 4 + n);
+}
+
+fn write_rec(src: &[u8], at: usize, k: u32, out: &mut [u8], o: usize)
+    requires { ⌜ ((t : Term) × TermAt (now src) at k t × (o + length (ownCommand t) ≤ length (now out))) × (val (part (now src) (at + 2) 2) ≡ 39) ⌝ }
+    ensures { λ _. ⌜ ((t : Term) → TermAt (now (src .entry)) at k t → now (out .exit) ≡ put (now (out .entry)) o (ownCommand t)) ⌝ }
+{
+    let x = buffer::get_u32(src, at + 4);
+    let kind = buffer::get_u16(src, at + 10) - 16;
+    let v = buffer::get_u32(src, at + 12);
+    let n = commands_size(
+        src,
+        at + own_size(src, at, k),
+        at + buffer::get_u16(src, at),
+        k,
+    );
+    put_loop(out, o, x, kind, v, n);
+}
+
+fn write_own(src: &[u8], at: usize, k: u32, out: &mut [u8], o: usize)
+    requires { ⌜ ((t : Term) × TermAt (now src) at k t × (o + length (ownCommand t) ≤ length (now out))) ⌝ }
+    ensures { λ _. ⌜ ((t : Term) → TermAt (now (src .entry)) at k t → now (out .exit) ≡ put (now (out .entry)) o (ownCommand t)) ⌝ }
+{
+    let kind = buffer::get_u16(src, at + 2);
+    if kind == 36 {
+        return;
+    }
+    if kind == 37 {
+        write_let_one(src, at, k, out, o);
+        return;
+    }
+    if kind == 38 {
+        write_let_all(src, at, k, out, o);
+        return;
+    }
+    write_rec(src, at, k, out, o);
+}
+
+fn write_commands(src: &[u8], from: usize, to: usize, k: u32, out: &mut [u8], start: usize)
+    requires { ⌜ ((ts : List Term) × TermsAt (now src) k to from ts × (start + length (commandsOfAll ts) ≤ length (now out))) × (to ≤ length (now src)) ⌝ }
+    ensures { λ _. ⌜ ((ts : List Term) → TermsAt (now (src .entry)) k to from ts → now (out .exit) ≡ put (now (out .entry)) start (commandsOfAll ts)) ⌝ }
+{
+    let mut at = from;
+    let mut o = start;
+    while at < to {
+        write_own(src, at, k, out, o);
+        o += own_command_size(src, at);
+        at += own_size(src, at, k);
+    }
+}
+
+// The program's record, and zeros behind it.
+pub fn write_source(src: &[u8], used: usize, k: u32, out: &mut [u8])
+    requires { ⌜ ((t : Term) × (P : Block) × TermIn allVars k t (now src) used × (readBack k t ≡ some P) × (length (encodeProgram k P) ≤ length (now out))) × (length (now src) ≤ 16384) ⌝ }
+    ensures { λ _. ⌜ ((t : Term) (P : Block) → TermIn allVars k t (now (src .entry)) used → readBack k t ≡ some P → now (out .exit) ≡ padded (length (now (out .entry))) (encodeProgram k P)) ⌝ }
+{
+    let n = source_size(src, used, k);
+    put_head(out, 0, 7, n);
+    buffer::put_u32(out, 4, k);
+    put_head(out, CONTENTS, 1, n - CONTENTS);
+    write_commands(src, CONTENTS, used, k, out, CONTENTS + 4);
+    let room = out.len();
+    buffer::zero(out, n, room - n);
+}

@@ -1,0 +1,84 @@
+-- The two moves and the three stores are one edit; the bounds of all five follow from those of the first.
+use borrow.Author.Needs.{needs}
+use Rattle.stepping.proofs.perform.unroll.Statement.{statement}
+use Rattle.stepping.proofs.perform.unroll.Tie as tie
+use Rattle.stepping.proofs.EditedLaws.{unrolled-is}
+
+sub-q : tie.Need-sub-q
+sub-q c = search needs
+
+add-move-up : tie.Need-add-move-up
+add-move-up c = search needs
+
+add-move-up-2 : tie.Need-add-move-up-2
+add-move-up-2 c = search needs
+
+add-move-up-3 : tie.Need-add-move-up-3
+add-move-up-3 c = search needs
+
+add-move-up-4 : tie.Need-add-move-up-4
+add-move-up-4 c = search needs
+
+sub-move-up : tie.Need-sub-move-up
+sub-move-up c = search needs
+
+move-up-requires : tie.Need-move-up-requires
+move-up-requires c κs = search needs
+
+add-move-up-5 : tie.Need-add-move-up-5
+add-move-up-5 c = search needs
+
+move-up-requires-2 : tie.Need-move-up-requires-2
+move-up-requires-2 c κs = search needs
+
+add-put-head : tie.Need-add-put-head
+add-put-head c = search needs
+
+put-head-requires : tie.Need-put-head-requires
+put-head-requires c κs = search needs
+
+add-put-literal : tie.Need-add-put-literal
+add-put-literal c = search needs
+
+put-literal-requires : tie.Need-put-literal-requires
+put-literal-requires c κs = search needs
+
+add-put-assignment : tie.Need-add-put-assignment
+add-put-assignment c = search needs
+
+add-put-assignment-2 : tie.Need-add-put-assignment-2
+add-put-assignment-2 c = search needs
+
+put-assignment-requires : tie.Need-put-assignment-requires
+put-assignment-requires c κs = search needs
+
+same-length : tie.Need-same-length
+same-length c = search needs
+
+returns : tie.Need-returns
+returns c =
+    let a = c .before .before .before .before .before .before .before .before .before .before .before .before .before .before .before .before .before .before .before .before .before .args in
+    unrolled-is (a .buf .now) _ _ _ _ _ (a .at) (a .n) (a .used) (a .x) (a .v) (c .before .before .before .before .before .before .before .before .before .before .before .before .before .before .before .before .before .before .move-up .ensures) (c .before .before .before .before .before .before .before .before .before .before .before .before .before .before .move-up2 .ensures) (c .before .before .before .before .before .before .before .before .before .before .put-head .ensures) (c .before .before .before .before .before .before .put-literal .ensures) (c .before .before .put-assignment .ensures)
+
+pub unroll-spec : {M : Type 1} → statement M
+unroll-spec =
+    tie.close
+    (tie.spec
+    sub-q
+    add-move-up
+    add-move-up-2
+    add-move-up-3
+    add-move-up-4
+    sub-move-up
+    move-up-requires
+    add-move-up-5
+    move-up-requires-2
+    add-put-head
+    put-head-requires
+    add-put-literal
+    put-literal-requires
+    add-put-assignment
+    add-put-assignment-2
+    put-assignment-requires
+    same-length
+    returns)

@@ -1,0 +1,117 @@
+-- A plan made: what it does to the bytes and to the store, and what the next state is.
+use Prim.Native.Nat.{ℕ, _*_, _+_, _-_, _<_, _≤_}
+use mathlib.Core.Path.{_≡_}
+use mathlib.Core.List.{List}
+use lib.ListN.{length}
+use Rattle.buffer.specs.Slice.{part, put}
+use Rattle.rules.specs.Rules.{at}
+use Rattle.rules.specs.Scope.{Within}
+use Rattle.rules.specs.Step.{step}
+use Rattle.rules.specs.Store.{fitsWord, update}
+use Rattle.rules.specs.Syntax.{Block, Config, next}
+use Rattle.place.specs.Edit.{lead, leafBytes, removed}
+use Rattle.place.specs.Heads.{recordHead}
+use Rattle.record.specs.Answers.{padded}
+use Rattle.record.specs.Header.{contentsAt}
+use Rattle.stepping.specs.Plan.{planOf}
+use Rattle.stepper.specs.RunStepper.{configBytes}
+use Rattle.stepping.specs.State.{Stands}
+use Rattle.stepping.specs.declared.Plan.{Plan}
+use Rattle.stepping.specs.declared.Rule.{Rule}
+use Rattle.stepping.specs.declared.Rule.the-variants.{Finished, Over, Store, Literal, Remove, Stop, Unroll}
+
+-- THE BYTES
+
+-- A loop's record of n bytes at p with room made for its unrolling: its body and all behind it once more n + 20 bytes on, and
+-- the record itself 4 bytes on.
+unfoldable pub spread : List ℕ → ℕ → ℕ → ℕ → List ℕ
+spread l p n used = put (put l (p + n + 20) (part l (p + 20) (used - (p + 20)))) (p + 4) (part (put l (p + n + 20) (part l (p + 20) (used - (p + 20)))) p n)
+
+-- A loop of the variable x whose bound's value is v, unrolled: a block's head before it, the literal v - 1 for its bound, and
+-- the assignment of v behind it.
+unfoldable pub unrolledAt : List ℕ → ℕ → ℕ → ℕ → ℕ → ℕ → List ℕ
+unrolledAt l p n used x v =
+    put (put (put (spread l p n used) p (recordHead 1 (n + n))) (p + 12) (leafBytes 16 (v - 1))) (p + 4 + n) (lead 2 16 x 16 v)
+
+-- A loop of which n bytes go, and an empty block's head stays.
+unfoldable pub stoppedAt : List ℕ → ℕ → ℕ → ℕ → List ℕ
+stoppedAt l p n used = put (removed l (p + 4) n used) p (recordHead 1 4)
+
+-- The first `used` bytes after the command of a plan has changed, with the lengths around it still to be brought up to date.
+unfoldable pub edited : Plan → Rule → ℕ → List ℕ → List ℕ
+edited p Finished used l = l
+edited p Over used l = l
+edited p Store used l = removed l (p .at) 16 used
+edited p Literal used l = put l (p .at + 8) (leafBytes 16 (p .value))
+edited p Remove used l = removed l (p .at) 4 used
+edited p Stop used l = stoppedAt l (p .at) (p .down) used
+edited p Unroll used l = unrolledAt l (p .at) (p .up) used (p .variable) (p .value)
+
+-- What the edit of a plan asks of the numbers: its bytes lie within the record, and the record grows within the buffer.
+abbrev pub EditFits : Plan → Rule → ℕ → ℕ → Type 0
+EditFits p Finished used room = Unit {0}
+EditFits p Over used room = Unit {0}
+EditFits p Store used room = p .at + 16 ≤ used
+EditFits p Literal used room = p .at + 16 ≤ used
+EditFits p Remove used room = p .at + 4 ≤ used
+EditFits p Stop used room = p .at + 4 + p .down ≤ used
+EditFits p Unroll used room = (20 ≤ p .up) × (p .at + p .up ≤ used) × (used + p .up ≤ room) × (0 < p .value)
+
+-- THE STORE
+
+-- The store after a plan: only Store changes it.
+unfoldable pub valued : Plan → Rule → List ℕ → List ℕ
+valued p Finished s = s
+valued p Over s = s
+valued p Store s = update s (p .variable) (p .value)
+valued p Literal s = s
+valued p Remove s = s
+valued p Stop s = s
+valued p Unroll s = s
+
+-- A plan that stores names a variable of the store.
+abbrev pub ValueFits : Plan → Rule → ℕ → Type 0
+ValueFits p Finished k = Unit {0}
+ValueFits p Over k = Unit {0}
+ValueFits p Store k = Within k (p .variable)
+ValueFits p Literal k = Unit {0}
+ValueFits p Remove k = Unit {0}
+ValueFits p Stop k = Unit {0}
+ValueFits p Unroll k = Unit {0}
+
+-- All that the code asks of the numbers of a plan, in a buffer of `room` bytes and a store of k values.
+pub record PlanFits (p : Plan) (used room k : ℕ) : Type 0 where
+  pub edit : EditFits p (p .rule) used room
+  pub value : ValueFits p (p .rule) k
+  pub levels : contentsAt + 4 * (p .levels + 1) ≤ room
+  pub up : p .up ≤ 16384
+  pub down : p .down ≤ used + p .up
+
+-- THE STEP
+
+-- The rule makes a step.
+abbrev pub Moves : Rule → Type 0
+Moves Finished = ⊥
+Moves Over = ⊥
+Moves Store = Unit {0}
+Moves Literal = Unit {0}
+Moves Remove = Unit {0}
+Moves Stop = Unit {0}
+Moves Unroll = Unit {0}
+
+-- What stands before a step: the program P with the store, its plan, which makes a step, and room for the next state.
+pub record Ready (k : ℕ) (P : Block) (buf : List ℕ) (used : ℕ) (store : List ℕ) (p : Plan) : Type 0 where
+  pub stands : Stands k (at P store) buf used
+  pub plans : p ≡ planOf P store
+  pub moves : Moves (p .rule)
+  pub fits : used + p .up ≤ length buf + p .down
+
+-- From the configuration c in a buffer of `room` bytes: the rules' next configuration stands in the buffer, with zeros behind
+-- it, and in the store, and `used` is its length.
+pub record Performed (k : ℕ) (c : Config) (room : ℕ) (buf : List ℕ) (store : List ℕ) (used : ℕ) : Type 0 where
+  pub after : Config
+  pub steps : step fitsWord c ≡ next after
+  pub bytes : buf ≡ padded room (configBytes k after)
+  pub values : store ≡ after .store
+  pub size : used ≡ length (configBytes k after)
+  pub stands : Stands k after buf used

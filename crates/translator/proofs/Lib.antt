@@ -1,0 +1,8 @@
+pub mod RowTranslationLaws
+pub mod StoresLaws
+pub mod TranslationHeadsLaws
+pub mod TupleLaws
+pub mod RowViewLaws
+pub mod RowScanLaws
+pub mod TaskLaws
+pub mod ProgramTaskLaws

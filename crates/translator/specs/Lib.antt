@@ -1,0 +1,4 @@
+pub mod RowTranslation
+pub mod TranslationHeads
+pub mod TranslationTasks
+pub mod RowScan

@@ -1,0 +1,52 @@
+-- What the translation of a command begins with, by the numbers read at the command's index p.
+use Prim.Native.Nat.{_*_, _+_, ℕ}
+use mathlib.Core.Bool.{Bool, false, true}
+use mathlib.Core.List.{_++_, List}
+use lib.Dec.{eqb, ltb}
+use Rattle.buffer.specs.LittleEndian.{le, val}
+use Rattle.buffer.specs.Slice.{part}
+use Rattle.place.specs.Heads.{recordHead}
+use Rattle.translator.specs.RowTranslation.{allBytes}
+
+-- The number in 2 bytes, and in 4.
+abbrev pub u16At : List ℕ → ℕ → ℕ
+u16At l p = val (part l p 2)
+
+abbrev pub u32At : List ℕ → ℕ → ℕ
+u32At l p = val (part l p 4)
+
+-- The variable and the atom of an assignment or of a loop: the atom's kind is 16 higher in a term.
+unfoldable pub bindingBytes : List ℕ → ℕ → List ℕ
+bindingBytes l p = le 4 (u32At l (p + 4)) ++ (recordHead (u16At l (p + 10) + 16) 8 ++ le 4 (u32At l (p + 12)))
+
+-- An assignment, by whether its expression is a literal or a variable: how many bytes a let-one has before its last term.
+unfoldable pub letOneSize : Bool → ℕ
+letOneSize true = 16
+letOneSize false = 20
+
+-- The variable, and what is bound: an atom, or succ or pred of one.
+unfoldable pub boundBytes : Bool → List ℕ → ℕ → List ℕ
+boundBytes true l p = bindingBytes l p
+boundBytes false l p = le 4 (u32At l (p + 4)) ++ (recordHead (u16At l (p + 10) + 16) 12 ++ (recordHead 33 8 ++ le 4 (u32At l (p + 12))))
+
+-- A let-one of n bytes before its last term.
+unfoldable pub letOneHead : List ℕ → ℕ → ℕ → List ℕ
+letOneHead l p n = recordHead 37 n ++ boundBytes (ltb (u16At l (p + 10)) 18) l p
+
+-- A block or a loop, by whether it is a loop: how many bytes it has before its inner row.
+unfoldable pub opening : Bool → ℕ
+opening true = 20
+opening false = 4
+
+-- How many bytes a let-all has before the translation of that row.
+unfoldable pub letAllSize : ℕ → Bool → ℕ
+letAllSize k true = 24 + 8 * k
+letAllSize k false = 4
+
+-- A let-all of n bytes before the translation of the inner row, which has m bytes: of a loop the rec is begun too.
+unfoldable pub letAllHeadIf : Bool → ℕ → List ℕ → ℕ → ℕ → ℕ → List ℕ
+letAllHeadIf true k l p n m = recordHead 38 n ++ (recordHead 39 (20 + 8 * k + m) ++ (bindingBytes l p ++ allBytes k))
+letAllHeadIf false k l p n m = recordHead 38 n
+
+unfoldable pub letAllHead : ℕ → List ℕ → ℕ → ℕ → ℕ → List ℕ
+letAllHead k l p n m = letAllHeadIf (eqb (u16At l (p + 2)) 3) k l p n m

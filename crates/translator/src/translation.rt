@@ -1,0 +1,254 @@
+// The translation of a checked program into a term's record (01 "Translation and read-back").
+ghost use mathlib.Core.Path.{_≡_};
+ghost use Prim.Native.Nat.{_+_, _-_, _*_, _≤_, _<_};
+ghost use lib.Dec.{ltb};
+ghost use lib.ListN.{length};
+ghost use Rattle.buffer.specs.Slice.{put};
+ghost use Rattle.rules.specs.Syntax.{Block};
+ghost use Rattle.rules.specs.Translation.{translate};
+ghost use Rattle.record.specs.Answers.{padded};
+ghost use Rattle.record.specs.Header.{encodeTerm};
+ghost use Rattle.record.specs.Holding.{ProgramIn};
+ghost use Rattle.place.specs.Heads.{recordHead};
+ghost use Rattle.translator.specs.RowTranslation.{RowAt, allBytes, rowBytes, rowSize};
+ghost use Rattle.translator.specs.TranslationHeads.{bindingBytes, letAllHead, letOneHead, letOneSize, u16At};
+ghost use Rattle.translator.specs.TranslationTasks.{Opens, PartsOf, TaskIn, cutAt, pastHeads};
+
+// Where the contents of a program's or a term's record start: behind its length, kind and k.
+const CONTENTS: usize = 8;
+
+// A row of commands, from `from` up to `to` in the source, and the place of its translation, from `start` up to `stop` in
+// the output.
+struct Task {
+    from: usize,
+    to: usize,
+    start: usize,
+    stop: usize,
+}
+
+// The two rows that a let-all is made of: that inside its command, and that behind it.
+struct Parts {
+    inner: Task,
+    rest: Task,
+}
+
+fn tuple_size(k: u32) -> usize
+    ensures { λ r. ⌜ r ≡ 4 + 8 * k ⌝ }
+{
+    4 + 8 * (k as usize)
+}
+
+fn let_one_size(src: &[u8], at: usize) -> usize
+    requires { ⌜ at + 16 ≤ length (now src) ⌝ }
+    ensures { λ r. ⌜ r ≡ letOneSize (ltb (u16At (now (src .entry)) (at + 10)) 18) ⌝ }
+{
+    if buffer::get_u16(src, at + 10) < 18 {
+        16
+    } else {
+        20
+    }
+}
+
+// Commands are met in the order of their bytes, at whatever depth, so this needs no stack: each adds what its translation has
+// besides those of its rows, and each row ends with a tuple.
+fn row_size(src: &[u8], from: usize, to: usize, k: u32) -> usize
+    requires { ⌜ (RowAt (now src) from to) × (k ≤ 16) ⌝ }
+    ensures { λ r. ⌜ ((h : RowAt (now (src .entry)) from to) → r ≡ rowSize k (h .block)) ⌝ }
+{
+    let tuple = tuple_size(k);
+    let mut total = tuple;
+    let mut at = from;
+    while at < to {
+        let kind = buffer::get_u16(src, at + 2);
+        if kind == 2 {
+            total += let_one_size(src, at);
+            at += 16;
+        } else if kind == 3 {
+            total += 20 + 2 * tuple;
+            at += 20;
+        } else {
+            total += 4 + tuple;
+            at += 4;
+        }
+    }
+    total
+}
+
+// A program that fits a buffer can have a term of 34 times its length: it is measured before a byte is written.
+pub fn translation_size(src: &[u8], used: usize, k: u32) -> usize
+    requires { ⌜ ((P : Block) × ProgramIn k P (now src) used) × (length (now src) ≤ 16384) ⌝ }
+    ensures { λ r. ⌜ ((P : Block) → ProgramIn k P (now (src .entry)) used → r ≡ length (encodeTerm k (translate k P))) ⌝ }
+{
+    CONTENTS + row_size(src, CONTENTS + 4, used, k)
+}
+
+fn put_head(buf: &mut [u8], at: usize, kind: usize, n: usize)
+    requires { ⌜ at + 4 ≤ length (now buf) ⌝ }
+    ensures { λ _. ⌜ now (buf .exit) ≡ put (now (buf .entry)) at (recordHead kind n) ⌝ }
+{
+    buffer::put_u16(buf, at, n);
+    buffer::put_u16(buf, at + 2, kind);
+}
+
+fn write_tuple(out: &mut [u8], o: usize, k: u32)
+    requires { ⌜ (o + (4 + 8 * k) ≤ length (now out)) × (k ≤ 16) ⌝ }
+    ensures { λ _. ⌜ now (out .exit) ≡ put (now (out .entry)) o (allBytes k) ⌝ }
+{
+    put_head(out, o, 36, tuple_size(k));
+    let mut p = o + 4;
+    let mut x = 1;
+    while x <= k {
+        put_head(out, p, 33, 8);
+        buffer::put_u32(out, p + 4, x);
+        p += 8;
+        x += 1;
+    }
+}
+
+// The variable and the atom of an assignment or a loop. Each number is one move; a copy of all 12 bytes would go byte by byte.
+fn write_binding(src: &[u8], at: usize, out: &mut [u8], o: usize)
+    requires { ⌜ (at + 16 ≤ length (now src)) × (o + 12 ≤ length (now out)) ⌝ }
+    ensures { λ _. ⌜ now (out .exit) ≡ put (now (out .entry)) o (bindingBytes (now (src .entry)) at) ⌝ }
+{
+    buffer::put_u32(out, o, buffer::get_u32(src, at + 4));
+    put_head(out, o + 4, buffer::get_u16(src, at + 10) + 16, 8);
+    buffer::put_u32(out, o + 8, buffer::get_u32(src, at + 12));
+}
+
+// Gives where the let-one's last term goes.
+fn write_let_one(src: &[u8], at: usize, out: &mut [u8], o: usize, n: usize) -> usize
+    requires { ⌜ (at + 16 ≤ length (now src)) × (o + 20 ≤ length (now out)) ⌝ }
+    ensures { λ r. ⌜ (now (out .exit) ≡ put (now (out .entry)) o (letOneHead (now (src .entry)) at n)) × (r ≡ o + letOneSize (ltb (u16At (now (src .entry)) (at + 10)) 18)) ⌝ }
+{
+    put_head(out, o, 37, n);
+    let kind = buffer::get_u16(src, at + 10);
+    if kind < 18 {
+        write_binding(src, at, out, o + 4);
+        return o + 16;
+    }
+    buffer::put_u32(out, o + 4, buffer::get_u32(src, at + 4));
+    put_head(out, o + 8, kind + 16, 12);
+    put_head(out, o + 12, 33, 8);
+    buffer::put_u32(out, o + 16, buffer::get_u32(src, at + 12));
+    o + 20
+}
+
+// A task from the row inside its first command on.
+fn past_heads(src: &[u8], whole: Task, k: u32) -> Task
+    requires { ⌜ (TaskIn k (now src) whole) × (whole .from < whole .to) ⌝ }
+    ensures { λ r. ⌜ r ≡ pastHeads k (now (src .entry)) whole ⌝ }
+{
+    if buffer::get_u16(src, whole.from + 2) == 3 {
+        return Task {
+            from: whole.from + 20,
+            to: whole.to,
+            start: whole.start + 20 + tuple_size(k),
+            stop: whole.stop,
+        };
+    }
+    Task {
+        from: whole.from + 4,
+        to: whole.to,
+        start: whole.start + 4,
+        stop: whole.stop,
+    }
+}
+
+fn cut(task: Task, next: usize, mid: usize) -> Parts
+    ensures { λ r. ⌜ r ≡ cutAt task next mid ⌝ }
+{
+    Parts {
+        inner: Task {
+            from: task.from,
+            to: next,
+            start: task.start,
+            stop: mid,
+        },
+        rest: Task {
+            from: next,
+            to: task.to,
+            start: mid,
+            stop: task.stop,
+        },
+    }
+}
+
+// The two rows fill what the heads of the let-all leave, so it is enough to measure the shorter.
+fn rows_of(src: &[u8], whole: Task, k: u32) -> Parts
+    requires { ⌜ (TaskIn k (now src) whole) × (whole .from < whole .to) × (u16At (now src) (whole .from + 2) ≡ 2 → ⊥) ⌝ }
+    ensures { λ r. ⌜ ((h : TaskIn k (now (src .entry)) whole) → PartsOf k (now (src .entry)) whole (h .row .block) r) ⌝ }
+{
+    let inner = past_heads(src, whole, k);
+    let next = whole.from + buffer::get_u16(src, whole.from);
+    if next - inner.from <= whole.to - next {
+        let size = row_size(src, inner.from, next, k);
+        return cut(inner, next, inner.start + size);
+    }
+    let size = row_size(src, next, whole.to, k);
+    cut(inner, next, whole.stop - size)
+}
+
+// A loop begins a rec in its let-all, and the inner row is the body of that rec.
+fn write_let_all(src: &[u8], whole: Task, inner: Task, k: u32, out: &mut [u8])
+    requires { ⌜ (Opens k (now src) whole inner) × (whole .stop ≤ length (now out)) ⌝ }
+    ensures { λ _. ⌜ now (out .exit) ≡ put (now (out .entry)) (whole .start) (letAllHead k (now (src .entry)) (whole .from) (whole .stop - whole .start) (inner .stop - inner .start)) ⌝ }
+{
+    let o = whole.start;
+    put_head(out, o, 38, whole.stop - o);
+    if buffer::get_u16(src, whole.from + 2) == 3 {
+        put_head(
+            out,
+            o + 4,
+            39,
+            16 + tuple_size(k) + (inner.stop - inner.start),
+        );
+        write_binding(src, whole.from, out, o + 8);
+        write_tuple(out, o + 20, k);
+    }
+}
+
+// Of a let-all's two rows the shorter is written by a call and the longer by the loop, so the calls nest no deeper than the
+// logarithm of the length.
+fn write_row(src: &[u8], task: Task, k: u32, out: &mut [u8])
+    requires { ⌜ (TaskIn k (now src) task) × (task .stop ≤ length (now out)) ⌝ }
+    ensures { λ _. ⌜ ((h : TaskIn k (now (src .entry)) task) → now (out .exit) ≡ put (now (out .entry)) (task .start) (rowBytes k (h .row .block))) ⌝ }
+{
+    let mut left = task;
+    while left.from < left.to {
+        if buffer::get_u16(src, left.from + 2) == 2 {
+            left.start = write_let_one(src, left.from, out, left.start, left.stop - left.start);
+            left.from += 16;
+        } else {
+            let parts = rows_of(src, left, k);
+            let inner = parts.inner;
+            let rest = parts.rest;
+            write_let_all(src, left, inner, k, out);
+            if inner.to - inner.from <= rest.to - rest.from {
+                write_row(src, inner, k, out);
+                left = rest;
+            } else {
+                write_row(src, rest, k, out);
+                left = inner;
+            }
+        }
+    }
+    write_tuple(out, left.start, k);
+}
+
+pub fn write_translation(src: &[u8], used: usize, k: u32, out: &mut [u8])
+    requires { ⌜ ((P : Block) × ProgramIn k P (now src) used × (length (encodeTerm k (translate k P)) ≤ length (now out))) × (length (now src) ≤ 16384) ⌝ }
+    ensures { λ _. ⌜ ((P : Block) → ProgramIn k P (now (src .entry)) used → now (out .exit) ≡ padded (length (now (out .entry))) (encodeTerm k (translate k P))) ⌝ }
+{
+    let total = translation_size(src, used, k);
+    put_head(out, 0, 40, total);
+    buffer::put_u32(out, 4, k);
+    let whole = Task {
+        from: CONTENTS + 4,
+        to: used,
+        start: CONTENTS,
+        stop: total,
+    };
+    write_row(src, whole, k, out);
+    let room = out.len();
+    buffer::zero(out, total, room - total);
+}
