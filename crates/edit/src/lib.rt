@@ -1,0 +1,78 @@
+// Edits of records in place, for every crate that writes records: the pieces that are stored, bytes taken out, and the
+// lengths around a place brought up to date.
+ghost use mathlib.Core.Path.{_≡_};
+ghost use Prim.Native.Nat.{_+_, _*_, _≤_};
+ghost use lib.ListN.{length};
+ghost use Rattle.buffer.specs.LittleEndian.{le, val};
+ghost use Rattle.buffer.specs.Slice.{part, put};
+ghost use Rattle.record.specs.Header.{contentsAt};
+ghost use Rattle.place.specs.Edit.{lead, leafBytes, removed};
+ghost use Rattle.place.specs.Heads.{recordHead, shifted};
+ghost use Rattle.place.specs.Whole.{relengthAll};
+use buffer::get_u16;
+use buffer::move_down;
+use buffer::put_u16;
+use buffer::put_u32;
+use buffer::zero;
+
+// The first four bytes of a record of n bytes.
+pub fn put_head(buf: &mut [u8], at: usize, kind: usize, n: usize)
+    requires { ⌜ at + 4 ≤ length (now buf) ⌝ }
+    ensures { λ _. ⌜ now (buf .exit) ≡ put (now (buf .entry)) at (recordHead kind n) ⌝ }
+{
+    put_u16(buf, at, n);
+    put_u16(buf, at + 2, kind);
+}
+
+// A record that holds one number: an expression, a bound or an atom.
+pub fn put_leaf(buf: &mut [u8], at: usize, kind: usize, v: u32)
+    requires { ⌜ at + 8 ≤ length (now buf) ⌝ }
+    ensures { λ _. ⌜ now (buf .exit) ≡ put (now (buf .entry)) at (leafBytes kind v) ⌝ }
+{
+    put_head(buf, at, kind, 8);
+    put_u32(buf, at + 4, v);
+}
+
+// What an assignment, a loop, a let-one of an atom and a rec begin with: a head, a variable, and a record of one number.
+pub fn put_lead(buf: &mut [u8], at: usize, kind: usize, n: usize, x: u32, leaf: usize, v: u32)
+    requires { ⌜ at + 16 ≤ length (now buf) ⌝ }
+    ensures { λ _. ⌜ now (buf .exit) ≡ put (now (buf .entry)) at (lead kind n x leaf v) ⌝ }
+{
+    put_head(buf, at, kind, n);
+    put_u32(buf, at + 4, x);
+    put_leaf(buf, at + 8, leaf, v);
+}
+
+// The n bytes at an index go, n above 0: what is behind them moves down, and zeros come in at the end.
+pub fn remove(buf: &mut [u8], at: usize, n: usize, used: usize)
+    requires { ⌜ (at + n ≤ used) × (used ≤ length (now buf)) ⌝ }
+    ensures { λ _. ⌜ now (buf .exit) ≡ removed (now (buf .entry)) at n used ⌝ }
+{
+    move_down(buf, at + n, at, used - (at + n));
+    zero(buf, used - n, n);
+}
+
+fn adjust(buf: &mut [u8], at: usize, up: usize, down: usize)
+    requires { ⌜ (at + 2 ≤ length (now buf)) × (up ≤ 16384) ⌝ }
+    ensures { λ _. ⌜ now (buf .exit) ≡ put (now (buf .entry)) at (le 2 (shifted up down (val (part (now (buf .entry)) at 2)))) ⌝ }
+{
+    let n = get_u16(buf, at) + up;
+    if down <= n {
+        put_u16(buf, at, n - down);
+    } else {
+        put_u16(buf, at, 0);
+    }
+}
+
+// The header's length, and those of so many levels of the contents.
+pub fn relength(buf: &mut [u8], count: usize, up: usize, down: usize)
+    requires { ⌜ (contentsAt + 4 * count ≤ length (now buf)) × (up ≤ 16384) ⌝ }
+    ensures { λ _. ⌜ now (buf .exit) ≡ relengthAll (shifted up down) count (now (buf .entry)) ⌝ }
+{
+    adjust(buf, 0, up, down);
+    let mut i = 0;
+    while i < count {
+        adjust(buf, record::HEADER_LENGTH + 4 * i, up, down);
+        i += 1;
+    }
+}
