@@ -119,6 +119,11 @@ pub fn row_of_blocks(k: u32, count: usize) -> Program {
     program(k, vec![Command::Block(vec![]); count])
 }
 
+/// A program of `count` assignments of a literal in a row.
+pub fn row_of_assignments(k: u32, count: usize) -> Program {
+    program(k, vec![Command::Assign(1, Expr::Literal(6)); count])
+}
+
 /// A program of `depth` blocks, each the only command of the one around it.
 pub fn nest_of_blocks(k: u32, depth: usize) -> Program {
     let wrap = |inner, _| vec![Command::Block(inner)];

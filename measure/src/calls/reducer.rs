@@ -4,7 +4,7 @@ use super::row;
 use crate::plain;
 use other::calls;
 use other::codec::Record;
-use other::examples::{add, nest_of_blocks, nest_of_loops};
+use other::examples::{add, nest_of_blocks, nest_of_loops, row_of_assignments};
 use other::generate::lend;
 use other::library;
 use other::run::stepper::Config;
@@ -22,6 +22,11 @@ pub fn print() {
         (
             "1,022 nested: 1,022 steps",
             nest_of_blocks(1, 1_022),
+            vec![5],
+        ),
+        (
+            "1,000 in a row: 1,000 steps",
+            row_of_assignments(1, 1_000),
             vec![5],
         ),
     ];

@@ -4,12 +4,13 @@ use super::row;
 use crate::plain;
 use other::calls;
 use other::codec::Record;
-use other::examples::{add, nest_of_blocks, nest_of_loops};
+use other::examples::{add, nest_of_blocks, nest_of_loops, row_of_assignments};
 use other::generate::lend;
 use other::library;
 
 /// Runs to the end: ADD on 7, 3 takes 18 steps; on 7, 400 it has states of up to 14 KB; 23,780 small
-/// steps; and 1,022 steps that each change the lengths of all blocks around.
+/// steps; 1,022 that each change the lengths of all blocks around; and 1,000 that each move all that is
+/// left.
 pub fn print() {
     let runs = [
         ("ADD on 7, 3: 18 steps", add(), vec![7, 3, 0, 0]),
@@ -22,6 +23,11 @@ pub fn print() {
         (
             "1,022 nested: 1,022 steps",
             nest_of_blocks(1, 1_022),
+            vec![5],
+        ),
+        (
+            "1,000 in a row: 1,000 steps",
+            row_of_assignments(1, 1_000),
             vec![5],
         ),
     ];

@@ -1,0 +1,37 @@
+//! So many steps of ADD by one engine of the library, for a count of instructions:
+//! `steps stepper|reducer BUDGET`. ./bench runs it under callgrind with two budgets and divides.
+
+use std::hint::black_box;
+
+use other::codec::Record;
+use other::examples::add;
+use other::generate::lend;
+use other::library;
+
+fn main() {
+    let arguments: Vec<String> = std::env::args().collect();
+    let budget = arguments[2].parse().expect("a budget");
+    match arguments[1].as_str() {
+        #[cfg(feature = "stepper")]
+        "stepper" => {
+            let record = add().encode();
+            let mut store = [7, 400, 0, 0];
+            let mut buf = lend(&record, 16_384);
+            black_box(library::run_stepper(
+                &mut buf,
+                record.len(),
+                &mut store,
+                budget,
+            ));
+        }
+        #[cfg(feature = "reducer")]
+        "reducer" => {
+            let (program, store) = (add(), vec![7, 200, 0, 0]);
+            let config = other::run::stepper::Config { program, store };
+            let record = config.term().encode();
+            let mut buf = lend(&record, 16_384);
+            black_box(library::run_reducer(&mut buf, record.len(), budget));
+        }
+        engine => panic!("no such engine: {engine}"),
+    }
+}
