@@ -11,7 +11,7 @@ use Rattle.buffer.proofs.SliceLaws.{drop-put, length-part, length-put, zeros-ad
 use Rattle.record.specs.Answers.{padded}
 use Rattle.record.specs.Header.{contentsAt, encodeTerm}
 use Rattle.record.specs.Term.{encodeTermRecord, simpleSize, termSize}
-use Rattle.rules.specs.FreeVariables.{adding, allVars, noVars}
+use Rattle.rules.specs.FreeVariables.{adding, allVars, closed, closedIn, noVars}
 use Rattle.rules.specs.Reduction.{reduce, valueOf}
 use Rattle.rules.specs.Sound.{SoundTerm}
 use Rattle.rules.specs.Store.{fitsWord}
@@ -29,6 +29,7 @@ use Rattle.record.proofs.AnswerLaws.{padded-zeros}
 use Rattle.record.proofs.HeaderLaws.{length-encodeTerm}
 use Rattle.record.proofs.WordsLaws.{termSize-substitute}
 use Rattle.rules.proofs.FreeVariablesLaws.{closed-nums}
+use Rattle.rules.proofs.SoundTermLaws.{sound-closed}
 use Rattle.place.proofs.AtLaws.{put-take}
 use Rattle.place.proofs.EditLaws.{length-leafBytes, length-removed, removed-behind, removed-cut}
 use Rattle.place.proofs.TermBytesLaws.{length-encodeTermRecord, termSize-letAll, termSize-letOne, termSize-rec, termSize-tuple}
@@ -259,3 +260,99 @@ module _ {k : ℕ} {t : Term} {l : List ℕ} {used : ℕ} (h : Stands k t l used
       made t₀ is t₁ m₅ up 0 (used + up) redexRec st (omega arith) (omega arith) fits
       (ap (λ (y : ℕ). take (used + y) m₅) (sym grow) ∙ bytes)
       (unrolled-behind l place k up used x (suc q) (omega arith) order fits ∙ zeros-behind h (used + up) (omega arith))
+
+  -- THE TERMS THAT ARE SUBSTITUTED INTO, and the numerals of a let-all's tuple
+
+  letOne-last : (x : ℕ) (a : Atom) (u : Term) → redex t ≡ letOne x (plain a) u → RangedTerm l (place + 16) k u
+  unfolding letOne-view simpleSize
+  letOne-last x a u is =
+      let t₀ : Term = letOne x (plain a) u in
+      record { here = letOne-view x (plain a) u (at₀ t₀ is) .last-at; range = sound-ranged fitsWord k (adding x noVars) u (h .holds .k-high) (sound₀ t₀ is .2) }
+
+  letAll-last : (ys : List Atom) (u : Term) → redex t ≡ letAll (tuple ys) u → RangedTerm l (place + (8 + 8 * length ys)) k u
+  unfolding letAll-view
+  letAll-last ys u is =
+      let t₀ : Term = letAll (tuple ys) u in
+      record {
+        here = term-index (letAll-view (tuple ys) u (at₀ t₀ is) .last-at) (ap (λ (n : ℕ). place + (8 + n)) (termSize-tuple ys));
+        range = sound-ranged fitsWord k allVars u (h .holds .k-high) (sound₀ t₀ is .1);
+      }
+
+  letAll-first : (ys : List Atom) (u : Term) → redex t ≡ letAll (tuple ys) u → TermAt l (place + 4) k (tuple (map num (map valueOf ys)))
+  unfolding letAll-view closed closedIn
+  letAll-first ys u is =
+      let t₀ : Term = letAll (tuple ys) u in
+      term-same (letAll-view (tuple ys) u (at₀ t₀ is) .first-at) (ap tuple (closed-nums ys (sound-closed fitsWord k (tuple ys) (sound₀ t₀ is .0))))
+
+  -- ANY PLAN
+
+  performs-by : (t₀ : Term) (q : Plan) → Planned (length (termPath t)) place t₀ q → redex t ≡ t₀ → Moves (q .rule) → used + q .up ≤ length l + q .down
+      → (m : List ℕ) → Edited k q (q .rule) used l m → Performed k t (length l) (relengthAll (shifted (q .up) (q .down)) (q .levels) m) (used + q .up - q .down)
+  performs-by _ _ plannedFinished is moves fits m e = absurd moves
+  performs-by _ _ plannedOver is moves fits m e = absurd moves
+  performs-by _ _ (plannedLetOne {x} {v} {a} {u} st) is moves fits m e = subst (Made 0 16) (sym (e u (letOne-last x a u is))) (letOne-made x v a u is st)
+  performs-by _ _ (plannedNumeral {x} {v} {s} {u} z st) is moves fits m e = subst (Made 0 4) (sym e) (numeral-made x v s u is z st)
+  performs-by _ _ (plannedLetAll {ys} {u} st) is moves fits m e =
+      subst (Made 0 (8 + 8 * length ys)) (sym (e (map valueOf ys) u (letAll-first ys u is) (letAll-last ys u is))) (letAll-made (fromStore (map valueOf ys)) ys u is st)
+  performs-by _ _ (plannedStop {x} {a} {ys} {u} st) is moves fits m e = subst (Made 0 (20 + termSize u)) (sym e) (stop-made x a ys u is st)
+  performs-by _ _ (plannedUnroll {x} {q} {a} {ys} {u} st) is moves fits m e = subst (Made (24 + termSize u) 0) (sym e) (unroll-made x q a ys u is st (omega arith))
+
+  planned : Planned (length (termPath t)) place (redex t) (planOf t)
+  unfolding planOf
+  planned = planned-redex (length (termPath t)) place (redex t)
+
+  -- the edit and the lengths of the plan are the reduction
+  pub performs : (q : Plan) → q ≡ planOf t → Moves (q .rule) → used + q .up ≤ length l + q .down → (m₁ m₂ : List ℕ) → Edited k q (q .rule) used l m₁
+      → m₂ ≡ relengthAll (shifted (q .up) (q .down)) (q .levels) m₁ → Performed k t (length l) m₂ (used + q .up - q .down)
+  performs q e moves fits m₁ m₂ e₁ e₂ =
+      subst (λ (y : List ℕ). Performed k t (length l) y (used + q .up - q .down)) (sym e₂)
+      (performs-by (redex t) q (subst (λ (y : Plan). Planned (length (termPath t)) place (redex t) y) (sym e) planned) refl moves fits m₁ e₁)
+
+  -- WHAT THE CODE ASKS
+
+  asks-by : (t₀ : Term) (q : Plan) → Planned (length (termPath t)) place t₀ q → redex t ≡ t₀ → used + q .up ≤ length l + q .down → PlanFits k q l used
+  unfolding simpleSize
+  asks-by _ _ plannedFinished is fits = record { edit = tt; levels = omega (arith, redex-room h, fits-buf); up = omega arith; down = omega arith }
+  asks-by _ _ plannedOver is fits = record { edit = tt; levels = omega (arith, redex-room h, fits-buf); up = omega arith; down = omega arith }
+  asks-by _ _ (plannedLetOne {x} {v} {a} {u} st) is fits =
+      let t₀ : Term = letOne x (plain a) u in
+      let z : termSize t₀ ≡ 8 + simpleSize (plain a) + termSize u = termSize-letOne x (plain a) u in
+      let room : place + (4 + termSize t₀) ≤ used = room₀ t₀ is in
+      let low : x < 17 = omega (arith, sound₀ t₀ is .0 .1, h .holds .k-high) in
+      record { edit = ((u, letOne-last x a u is), low, omega arith); levels = omega (arith, fits-buf); up = omega arith; down = omega arith }
+  asks-by _ _ (plannedNumeral {x} {v} {s} {u} e st) is fits =
+      let t₀ : Term = letOne x s u in
+      let z : termSize t₀ ≡ 8 + simpleSize s + termSize u = termSize-letOne x s u in
+      let room : place + (4 + termSize t₀) ≤ used = room₀ t₀ is in
+      let read : val (part l place 2) ≡ 4 + termSize t₀ = term-read (at₀ t₀ is) (place + 2) refl .0 in
+      record { edit = (omega arith, omega arith); levels = omega (arith, fits-buf); up = omega arith; down = omega arith }
+  asks-by _ _ (plannedLetAll {ys} {u} st) is fits =
+      let t₀ : Term = letAll (tuple ys) u in
+      let z : termSize t₀ ≡ 8 + termSize (tuple ys) + termSize u = termSize-letAll (tuple ys) u in
+      let y : termSize (tuple ys) ≡ 8 * length ys = termSize-tuple ys in
+      let room : place + (4 + termSize t₀) ≤ used = room₀ t₀ is in
+      record {
+        edit = ((map valueOf ys, letAll-first ys u is), (u, letAll-last ys u is), h .holds .k-high, omega arith);
+        levels = omega (arith, fits-buf);
+        up = omega arith;
+        down = omega arith;
+      }
+  asks-by _ _ (plannedStop {x} {a} {ys} {u} st) is fits =
+      let t₀ : Term = rec x a ys u in
+      let z : termSize t₀ ≡ 20 + 8 * length ys + termSize u = termSize-rec x a ys u in
+      let hk : length ys ≡ k = sound₀ t₀ is .2 in
+      let room : place + (4 + termSize t₀) ≤ used = room₀ t₀ is in
+      record { edit = (omega arith, omega arith); levels = omega (arith, fits-buf); up = omega arith; down = omega arith }
+  asks-by _ _ (plannedUnroll {x} {q} {a} {ys} {u} st) is fits =
+      let t₀ : Term = rec x a ys u in
+      let z : termSize t₀ ≡ 20 + 8 * length ys + termSize u = termSize-rec x a ys u in
+      let hk : length ys ≡ k = sound₀ t₀ is .2 in
+      let room : place + (4 + termSize t₀) ≤ used = room₀ t₀ is in
+      let small : length l ≤ 16384 = h .short in
+      record { edit = (omega arith, omega arith, omega arith, omega arith); levels = omega (arith, fits-buf); up = omega arith; down = omega arith }
+
+  plan-fits : (q : Plan) → q ≡ planOf t → used + q .up ≤ length l + q .down → PlanFits k q l used
+  plan-fits q e fits = asks-by (redex t) q (subst (λ (y : Plan). Planned (length (termPath t)) place (redex t) y) (sym e) planned) refl fits
+
+pub ready-fits : {k : ℕ} {t : Term} {l : List ℕ} {used : ℕ} (q : Plan) → Ready k t l used q → PlanFits k q l used
+ready-fits q h = plan-fits (h .stands) q (h .plans) (h .fits)

@@ -20,17 +20,17 @@ use Rattle.redex.specs.declared.Rule.the-variants.{Finished, LetAll, LetOne, Nu
 pub data Planned (levels p : ℕ) : Term → Plan → Type 0 where
   plannedFinished : {t : Term} → Planned levels p t (plan levels p Finished 0 0 0 0)
   plannedOver : {t : Term} {x : ℕ} → Planned levels p t (plan levels p Over x 0 0 0)
-  plannedLetOne : {x v : ℕ} {a : Atom} {t : Term} → reduce fitsWord (letOne x (plain a) t) ≡ next (substitute (only x v) t)
-      → Planned levels p (letOne x (plain a) t) (plan levels p LetOne x v 0 16)
-  plannedNumeral : {x v : ℕ} {s : Simple} {t : Term} → simpleSize s ≡ 12 → reduce fitsWord (letOne x s t) ≡ next (letOne x (plain (num v)) t)
-      → Planned levels p (letOne x s t) (plan levels p Numeral x v 0 4)
+  plannedLetOne : {x v : ℕ} {a : Atom} {u : Term} → reduce fitsWord (letOne x (plain a) u) ≡ next (substitute (only x v) u)
+      → Planned levels p (letOne x (plain a) u) (plan levels p LetOne x v 0 16)
+  plannedNumeral : {x v : ℕ} {s : Simple} {u : Term} → simpleSize s ≡ 12 → reduce fitsWord (letOne x s u) ≡ next (letOne x (plain (num v)) u)
+      → Planned levels p (letOne x s u) (plan levels p Numeral x v 0 4)
   plannedLetAll : {ys : List Atom} {u : Term} → reduce fitsWord (letAll (tuple ys) u) ≡ next (substitute (fromStore (map valueOf ys)) u)
       → Planned levels p (letAll (tuple ys) u) (plan levels p LetAll 0 0 0 (8 + 8 * length ys))
-  plannedStop : {x : ℕ} {a : Atom} {ys : List Atom} {t : Term} → reduce fitsWord (rec x a ys t) ≡ next (tuple ys)
-      → Planned levels p (rec x a ys t) (plan levels p Stop x 0 0 (20 + termSize t))
-  plannedUnroll : {x q : ℕ} {a : Atom} {ys : List Atom} {t : Term}
-      → reduce fitsWord (rec x a ys t) ≡ next (letAll (rec x (num q) ys t) (letOne x (plain (num (suc q))) t))
-      → Planned levels p (rec x a ys t) (plan levels p Unroll x (suc q) (24 + termSize t) 0)
+  plannedStop : {x : ℕ} {a : Atom} {ys : List Atom} {u : Term} → reduce fitsWord (rec x a ys u) ≡ next (tuple ys)
+      → Planned levels p (rec x a ys u) (plan levels p Stop x 0 0 (20 + termSize u))
+  plannedUnroll : {x q : ℕ} {a : Atom} {ys : List Atom} {u : Term}
+      → reduce fitsWord (rec x a ys u) ≡ next (letAll (rec x (num q) ys u) (letOne x (plain (num (suc q))) u))
+      → Planned levels p (rec x a ys u) (plan levels p Unroll x (suc q) (24 + termSize u) 0)
 
 module _ (levels p : ℕ) where
   planned-raise : (x : ℕ) (a : Atom) (t : Term) (b : Bool) → fitsWord (suc (valueOf a)) ≡ b → Planned levels p (letOne x (succOf a) t) (planRaise levels p x (suc (valueOf a)) b)
