@@ -1,2 +1,59 @@
 // The plan of the next reduction made in place. Only the bytes of the redex and those behind it move; the lengths around it are
 // brought up to date by one loop.
+ghost use mathlib.Core.Path.{_≡_};
+ghost use mathlib.Core.List.{List, map};
+ghost use Prim.Native.Nat.{ℕ, _+_, _*_, _-_, _<_, _≤_};
+ghost use lib.ListN.{length};
+ghost use Rattle.buffer.specs.LittleEndian.{val};
+ghost use Rattle.buffer.specs.Slice.{part};
+ghost use Rattle.rules.specs.Substitution.{fromStore, only as onlyOf, substitute};
+ghost use Rattle.rules.specs.Syntax.{Term, num, tuple};
+ghost use Rattle.place.specs.TermView.{TermAt};
+ghost use Rattle.filling.specs.Ranged.{RangedTerm};
+ghost use Rattle.redex.specs.Plan.{planOf};
+ghost use Rattle.reducing.specs.Perform.{EditFits, Edited, Performed, Ready, filledAt, numeralAt, stoppedAt, unrolledAt};
+ghost use Rattle.reducing.specs.State.{Stands};
+use buffer::get_u16;
+use buffer::move_down;
+use buffer::move_up;
+use buffer::put_u16;
+use edit::put_head;
+use edit::put_lead;
+use edit::put_leaf;
+use edit::relength;
+use edit::remove;
+use filling::substitution::substitute_at;
+use filling::values::from_tuple;
+use filling::values::only;
+use redex::Plan;
+use redex::Rule;
+
+// Let-one of a numeral: the value goes into its last term, and its other 16 bytes go.
+fn let_one(buf: &mut [u8], at: usize, k: u32, used: usize, x: u32, v: u32)
+    requires { ⌜ ((u : Term) × RangedTerm (now buf) (at + 16) k u) × (x < 17) × (at + 16 ≤ used) × (used ≤ length (now buf)) ⌝ }
+    ensures { λ _. ⌜ ((u : Term) → RangedTerm (now (buf .entry)) (at + 16) k u → now (buf .exit) ≡ filledAt (now (buf .entry)) at 16 (substitute (onlyOf x v) u) used) ⌝ }
+{
+    substitute_at(buf, at + 16, k, only(x as usize, v));
+    remove(buf, at, 16, used);
+}
+
+// Let-one of succ or pred: that becomes the numeral, which has 4 bytes less.
+fn set_numeral(buf: &mut [u8], at: usize, used: usize, v: u32)
+    requires { ⌜ (at + 20 ≤ used) × (4 ≤ val (part (now buf) at 2)) × (used ≤ length (now buf)) ⌝ }
+    ensures { λ _. ⌜ now (buf .exit) ≡ numeralAt (now (buf .entry)) at used v ⌝ }
+{
+    let n = get_u16(buf, at);
+    remove(buf, at + 8, 4, used);
+    put_u16(buf, at, n - 4);
+    put_leaf(buf, at + 8, 32, v);
+}
+
+// Let-all of a tuple: its numerals go into the last term, and the n bytes of its head and the tuple go.
+fn let_all(buf: &mut [u8], at: usize, k: u32, used: usize, n: usize)
+    requires { ⌜ ((vs : List ℕ) × TermAt (now buf) (at + 4) k (tuple (map num vs))) × ((u : Term) × RangedTerm (now buf) (at + n) k u) × (k ≤ 16) × (at + n ≤ used) × (used ≤ length (now buf)) ⌝ }
+    ensures { λ _. ⌜ ((vs : List ℕ) (u : Term) → TermAt (now (buf .entry)) (at + 4) k (tuple (map num vs)) → RangedTerm (now (buf .entry)) (at + n) k u → now (buf .exit) ≡ filledAt (now (buf .entry)) at n (substitute (fromStore vs) u) used) ⌝ }
+{
+    let values = from_tuple(buf, at + 4, k);
+    substitute_at(buf, at + n, k, values);
+    remove(buf, at, n, used);
+}
