@@ -57,3 +57,30 @@ fn let_all(buf: &mut [u8], at: usize, k: u32, used: usize, n: usize)
     substitute_at(buf, at + n, k, values);
     remove(buf, at, n, used);
 }
+
+// Rec of 0: its start tuple moves down to its place, and `down` bytes behind that go.
+fn stop(buf: &mut [u8], at: usize, k: u32, used: usize, down: usize)
+    requires { ⌜ (16 ≤ down) × (at + (4 + 8 * k) + down ≤ used) × (used ≤ length (now buf)) ⌝ }
+    ensures { λ _. ⌜ now (buf .exit) ≡ stoppedAt (now (buf .entry)) at k down used ⌝ }
+{
+    let n = 4 + 8 * (k as usize);
+    move_down(buf, at + 16, at, n);
+    remove(buf, at + n, down, used);
+}
+
+// Rec of q + 1: a let-all of the rec of q and the body. The body and what is behind it move up in one piece, so that the body
+// stands twice; then the rec moves up by 4 bytes and makes room for the let-all's head.
+fn unroll(buf: &mut [u8], at: usize, k: u32, used: usize, up: usize, x: u32, v: u32)
+    requires { ⌜ (24 ≤ up) × (at + (up + 8 * k) ≤ used) × (used + up ≤ length (now buf)) × (0 < v) × (length (now buf) ≤ 16384) ⌝ }
+    ensures { λ _. ⌜ now (buf .exit) ≡ unrolledAt (now (buf .entry)) at k up used x v ⌝ }
+{
+    let row = 8 * (k as usize);
+    let n = up + row;
+    let body = at + (20 + row);
+    let q = v - 1;
+    move_up(buf, body, at + n + 20, used - body);
+    move_up(buf, at, at + 4, n);
+    put_head(buf, at, 38, n + up);
+    put_leaf(buf, at + 12, 32, q);
+    put_lead(buf, at + 4 + n, 37, up - 4, x, 32, v);
+}
