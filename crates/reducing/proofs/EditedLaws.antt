@@ -1,6 +1,6 @@
 -- Laws of the edits: several stores are one edit, and nothing behind the record changes but where it grows.
 use Prim.Native.Nat.{ℕ, _*_, _+_, _-_, _≤_}
-use mathlib.Core.Path.{_≡_, _∙_, ap}
+use mathlib.Core.Path.{_≡_, _∙_, ap, subst, sym}
 use mathlib.Core.List.{List}
 use lib.ListN.{drop, length}
 use native.Mathlib.Omega.{arith}
@@ -14,7 +14,9 @@ use Rattle.place.specs.Heads.{recordHead}
 use Rattle.buffer.proofs.SliceLaws.{drop-put, length-part, length-put}
 use Rattle.place.proofs.EditLaws.{length-lead, length-leafBytes}
 use Rattle.place.proofs.HeadsLaws.{length-recordHead}
-use Rattle.reducing.specs.Perform.{filledAt, numeralAt, spread, stoppedAt, unrolledAt}
+use Rattle.redex.specs.declared.Plan.{Plan}
+use Rattle.redex.specs.declared.Rule.{Rule}
+use Rattle.reducing.specs.Perform.{EditFits, Edited, filledAt, numeralAt, spread, stoppedAt, unrolledAt}
 
 pub filled-is : (l m₁ m₂ : List ℕ) (p n used : ℕ) (f g : Substitution) (u : Term) → f ≡ g → m₁ ≡ put l (p + n) (encodeTermRecord (substitute f u)) → m₂ ≡ removed m₁ p n used
     → m₂ ≡ filledAt l p n (substitute g u) used
@@ -65,3 +67,11 @@ unrolled-behind l p k up used x v a b c =
     let n₅ : length v₅ ≡ 16 = length-lead 37 (up - 4) x 32 v in
     drop-put m₄ v₅ (p + 4 + n) to (omega arith) (omega arith) ∙ drop-put m₃ v₄ (p + 12) to (omega arith) (omega arith) ∙ drop-put m₂ v₃ p to (omega arith) (omega arith)
     ∙ drop-put m₁ v₂ (p + 4) to (omega arith) (omega arith) ∙ drop-put l v₁ (p + n + 20) to (omega arith) (omega arith)
+
+-- BY THE RULE, where a plan's is known
+
+pub asks-by : (k used : ℕ) (p : Plan) (l : List ℕ) (r : Rule) → p .rule ≡ r → EditFits k p (p .rule) l used → EditFits k p r l used
+asks-by k used p l r e h = subst (λ (y : Rule). EditFits k p y l used) e h
+
+pub edited-by : (k used : ℕ) (p : Plan) (l m : List ℕ) (r : Rule) → p .rule ≡ r → Edited k p r used l m → Edited k p (p .rule) used l m
+edited-by k used p l m r e h = subst (λ (y : Rule). Edited k p y used l m) (sym e) h

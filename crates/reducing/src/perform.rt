@@ -84,3 +84,20 @@ fn unroll(buf: &mut [u8], at: usize, k: u32, used: usize, up: usize, x: u32, v: 
     put_leaf(buf, at + 12, 32, q);
     put_lead(buf, at + 4 + n, 37, up - 4, x, 32, v);
 }
+
+// The redex of a plan changed, and what is behind it moved.
+fn edit(buf: &mut [u8], used: usize, k: u32, p: Plan)
+    requires { ⌜ EditFits k p (p .rule) (now buf) used × (used ≤ length (now buf)) × (length (now buf) ≤ 16384) ⌝ }
+    ensures { λ _. ⌜ Edited k p (p .rule) used (now (buf .entry)) (now (buf .exit)) ⌝ }
+{
+    let rule = p.rule;
+    match rule {
+        Rule::Finished => {}
+        Rule::Over => {}
+        Rule::LetOne => let_one(buf, p.at, k, used, p.variable, p.value),
+        Rule::Numeral => set_numeral(buf, p.at, used, p.value),
+        Rule::LetAll => let_all(buf, p.at, k, used, p.down),
+        Rule::Stop => stop(buf, p.at, k, used, p.down),
+        Rule::Unroll => unroll(buf, p.at, k, used, p.up, p.variable, p.value),
+    }
+}
