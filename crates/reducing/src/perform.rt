@@ -101,3 +101,13 @@ fn edit(buf: &mut [u8], used: usize, k: u32, p: Plan)
         Rule::Unroll => unroll(buf, p.at, k, used, p.up, p.variable, p.value),
     }
 }
+
+// Makes the reduction of a plan that the look gave for the term as it is; the result is the record's new length.
+pub fn perform(buf: &mut [u8], used: usize, k: u32, p: Plan) -> usize
+    requires { ⌜ ((t : Term) × Ready k t (now buf) used p) ⌝ }
+    ensures { λ r. ⌜ ((t : Term) → Stands k t (now (buf .entry)) used → p ≡ planOf t → Performed k t (length (now (buf .entry))) (now (buf .exit)) r) ⌝ }
+{
+    edit(buf, used, k, p);
+    relength(buf, p.levels, p.up, p.down);
+    used + p.up - p.down
+}
