@@ -1,18 +1,84 @@
--- A plan made: what the next state is.
-use Prim.Native.Nat.{ℕ, _+_, _≤_}
+-- A plan made: what it does to the bytes, and what the next state is.
+use Prim.Native.Nat.{ℕ, _*_, _+_, _-_, _<_, _≤_}
 use mathlib.Core.Path.{_≡_}
-use mathlib.Core.List.{List}
+use mathlib.Core.List.{List, map}
 use lib.ListN.{length}
+use Rattle.buffer.specs.LittleEndian.{le, val}
+use Rattle.buffer.specs.Slice.{part, put}
 use Rattle.rules.specs.Reduction.{reduce}
 use Rattle.rules.specs.Store.{fitsWord}
-use Rattle.rules.specs.Syntax.{Term, next}
+use Rattle.rules.specs.Substitution.{fromStore, only, substitute}
+use Rattle.rules.specs.Syntax.{Term, next, num, tuple}
 use Rattle.record.specs.Answers.{padded}
-use Rattle.record.specs.Header.{encodeTerm}
+use Rattle.record.specs.Header.{contentsAt, encodeTerm}
+use Rattle.record.specs.Term.{encodeTermRecord}
+use Rattle.place.specs.Edit.{lead, leafBytes, removed}
+use Rattle.place.specs.Heads.{recordHead}
+use Rattle.place.specs.TermView.{TermAt}
+use Rattle.filling.specs.Ranged.{RangedTerm}
 use Rattle.redex.specs.Plan.{planOf}
 use Rattle.redex.specs.declared.Plan.{Plan}
 use Rattle.redex.specs.declared.Rule.{Rule}
 use Rattle.redex.specs.declared.Rule.the-variants.{Finished, LetAll, LetOne, Numeral, Over, Stop, Unroll}
 use Rattle.reducing.specs.State.{Stands}
+
+-- THE BYTES
+
+-- The term u stored n bytes behind p, and those n bytes gone.
+unfoldable pub filledAt : List ℕ → ℕ → ℕ → Term → ℕ → List ℕ
+filledAt l p n u used = removed (put l (p + n) (encodeTermRecord u)) p n used
+
+-- A let-one of succ or pred at p made one of the numeral v: 4 bytes go, and its length says so.
+unfoldable pub numeralAt : List ℕ → ℕ → ℕ → ℕ → List ℕ
+numeralAt l p used v = put (put (removed l (p + 8) 4 used) p (le 2 (val (part l p 2) - 4))) (p + 8) (leafBytes 32 v)
+
+-- A rec of which n bytes go, and its start tuple of k atoms stays.
+unfoldable pub stoppedAt : List ℕ → ℕ → ℕ → ℕ → ℕ → List ℕ
+stoppedAt l p k n used = removed (put l p (part l (p + 16) (4 + 8 * k))) (p + (4 + 8 * k)) n used
+
+-- A rec's record of n bytes at p, its body s bytes on, with room made for its unrolling: the body and all behind it once more
+-- n + 20 bytes on, and the record itself 4 bytes on.
+unfoldable pub spread : List ℕ → ℕ → ℕ → ℕ → ℕ → List ℕ
+spread l p n s used = put (put l (p + n + 20) (part l (p + s) (used - (p + s)))) (p + 4) (part (put l (p + n + 20) (part l (p + s) (used - (p + s)))) p n)
+
+-- A rec of the variable x, with a start tuple of k atoms, whose count's value is v, unrolled into `up` bytes more: a let-all's
+-- head before it, the numeral v - 1 for its count, and a let-one of v before the body once more.
+unfoldable pub unrolledAt : List ℕ → ℕ → ℕ → ℕ → ℕ → ℕ → ℕ → List ℕ
+unrolledAt l p k up used x v =
+    put (put (put (spread l p (up + 8 * k) (20 + 8 * k) used) p (recordHead 38 (up + 8 * k + up))) (p + 12) (leafBytes 32 (v - 1))) (p + 4 + (up + 8 * k)) (lead 37 (up - 4) x 32 v)
+
+-- What the edit of a plan makes of the bytes l, with the lengths around the redex still to be brought up to date. The terms that
+-- are substituted into are those that stand in l.
+abbrev pub Edited : ℕ → Plan → Rule → ℕ → List ℕ → List ℕ → Type 0
+Edited k p Finished used l m = m ≡ l
+Edited k p Over used l m = m ≡ l
+Edited k p LetOne used l m = (u : Term) → RangedTerm l (p .at + 16) k u → m ≡ filledAt l (p .at) 16 (substitute (only (p .variable) (p .value)) u) used
+Edited k p Numeral used l m = m ≡ numeralAt l (p .at) used (p .value)
+Edited k p LetAll used l m =
+    (vs : List ℕ) (u : Term) → TermAt l (p .at + 4) k (tuple (map num vs)) → RangedTerm l (p .at + p .down) k u
+    → m ≡ filledAt l (p .at) (p .down) (substitute (fromStore vs) u) used
+Edited k p Stop used l m = m ≡ stoppedAt l (p .at) k (p .down) used
+Edited k p Unroll used l m = m ≡ unrolledAt l (p .at) k (p .up) used (p .variable) (p .value)
+
+-- What the edit of a plan asks: the terms that it substitutes into, its bytes within the record, and growth within the buffer.
+abbrev pub EditFits : ℕ → Plan → Rule → List ℕ → ℕ → Type 0
+EditFits k p Finished l used = Unit {0}
+EditFits k p Over l used = Unit {0}
+EditFits k p LetOne l used = ((u : Term) × RangedTerm l (p .at + 16) k u) × (p .variable < 17) × (p .at + 16 ≤ used)
+EditFits k p Numeral l used = (p .at + 20 ≤ used) × (4 ≤ val (part l (p .at) 2))
+EditFits k p LetAll l used =
+    ((vs : List ℕ) × TermAt l (p .at + 4) k (tuple (map num vs))) × ((u : Term) × RangedTerm l (p .at + p .down) k u) × (k ≤ 16) × (p .at + p .down ≤ used)
+EditFits k p Stop l used = (16 ≤ p .down) × (p .at + (4 + 8 * k) + p .down ≤ used)
+EditFits k p Unroll l used = (24 ≤ p .up) × (p .at + (p .up + 8 * k) ≤ used) × (used + p .up ≤ length l) × (0 < p .value)
+
+-- All that the code asks of a plan.
+pub record PlanFits (k : ℕ) (p : Plan) (l : List ℕ) (used : ℕ) : Type 0 where
+  pub edit : EditFits k p (p .rule) l used
+  pub levels : contentsAt + 4 * p .levels ≤ length l
+  pub up : p .up ≤ 16384
+  pub down : p .down ≤ used + p .up
+
+-- THE REDUCTION
 
 -- The rule makes a reduction.
 abbrev pub Moves : Rule → Type 0

@@ -1,0 +1,4 @@
+pub mod StateLaws
+pub mod PlanLaws
+pub mod EditedLaws
+pub mod PerformLaws

@@ -1,0 +1,358 @@
+-- Laws of a plan made: each rule's edit, with the lengths brought up to date, is the rules' reduction.
+use Prim.Native.Nat.{ℕ, suc, _*_, _+_, _-_, _<_, _≤_}
+use mathlib.Core.Path.{_≡_, _∙_, ap, refl, subst, sym}
+use mathlib.Core.List.{List, _++_, map}
+use lib.ListN.{drop, length, take}
+use native.Mathlib.Omega.{arith}
+use Rattle.buffer.specs.LittleEndian.{le, val}
+use Rattle.buffer.specs.Slice.{part, put, zeros}
+use Rattle.buffer.proofs.LittleEndianLaws.{length-le}
+use Rattle.buffer.proofs.SliceLaws.{drop-put, length-part, length-put, zeros-add}
+use Rattle.record.specs.Answers.{padded}
+use Rattle.record.specs.Header.{contentsAt, encodeTerm}
+use Rattle.record.specs.Term.{encodeTermRecord, simpleSize, termSize}
+use Rattle.rules.specs.FreeVariables.{adding, allVars, closed, closedIn, noVars}
+use Rattle.rules.specs.Reduction.{reduce, valueOf}
+use Rattle.rules.specs.Sound.{SoundTerm}
+use Rattle.rules.specs.Store.{fitsWord}
+use Rattle.rules.specs.Substitution.{Substitution, fromStore, only, substitute}
+use Rattle.rules.specs.Syntax.{Atom, Simple, Term, letAll, letOne, next, num, plain, rec, tuple}
+use Rattle.place.specs.Edit.{lead, leafBytes, removed}
+use Rattle.place.specs.Heads.{recordHead, shifted}
+use Rattle.place.specs.Nesting.{around, plug, rests}
+use Rattle.place.specs.TermPath.{Redex, redex, redexLetAll, redexLetOne, redexRec, termPath, terms}
+use Rattle.place.specs.TermView.{TermAt}
+use Rattle.place.specs.Whole.{relengthAll, termFront}
+use Rattle.filling.specs.Ranged.{RangedTerm}
+use Rattle.filling.proofs.RangedLaws.{sound-ranged}
+use Rattle.record.proofs.AnswerLaws.{padded-zeros}
+use Rattle.record.proofs.HeaderLaws.{length-encodeTerm}
+use Rattle.record.proofs.WordsLaws.{termSize-substitute}
+use Rattle.rules.proofs.FreeVariablesLaws.{closed-nums}
+use Rattle.rules.proofs.SoundTermLaws.{sound-closed}
+use Rattle.place.proofs.AtLaws.{put-take}
+use Rattle.place.proofs.EditLaws.{length-leafBytes, length-removed, removed-behind, removed-cut}
+use Rattle.place.proofs.TermBytesLaws.{length-encodeTermRecord, termSize-letAll, termSize-letOne, termSize-rec, termSize-tuple}
+use Rattle.place.proofs.TermEditLaws.{letAll-gone, letOne-gone, letOne-set, rec-stopped, rec-unrolled}
+use Rattle.place.proofs.TermPathLaws.{termSize-plug}
+use Rattle.place.proofs.TermPutLaws.{put-letAll-last, put-letOne-last}
+use Rattle.place.proofs.TermViewLaws.{letAll-view, letOne-view, term-index, term-read, term-same}
+use Rattle.place.proofs.WholeLaws.{encodeTerm-relength, length-termFront}
+use Rattle.reducing.specs.Perform.{Edited, Moves, Performed, PlanFits, Ready, filledAt, numeralAt, spread, stoppedAt, unrolledAt}
+use Rattle.reducing.specs.State.{Stands}
+use Rattle.redex.specs.Plan.{planOf}
+use Rattle.redex.specs.declared.Plan.{Plan}
+use Rattle.reducing.proofs.EditedLaws.{unrolled-behind}
+use Rattle.reducing.proofs.PlanLaws.{Planned, planned-redex, plannedFinished, plannedLetAll, plannedLetOne, plannedNumeral, plannedOver, plannedStop, plannedUnroll, redex-reduces}
+use Rattle.reducing.proofs.StateLaws.{redex-bytes, redex-room, redex-sound, redex-stands, redex-used, stands-after, zeros-behind}
+
+module _ {k : ℕ} {t : Term} {l : List ℕ} {used : ℕ} (h : Stands k t l used) where
+  abbrev place : ℕ
+  place = contentsAt + 4 * length (termPath t)
+
+  fits-buf : used ≤ length l
+  fits-buf = h .holds .within
+
+  -- bytes taken out of l, or of l changed within the record
+  tail-removed : (m : List ℕ) (p n : ℕ) → length m ≡ length l → drop used m ≡ drop used l → p + n ≤ used → drop (used - n) (removed m p n used) ≡ zeros (length l - (used - n))
+  tail-removed m p n lm e order =
+      let fits : used ≤ length l = h .holds .within in
+      let z : n + (length l - used) ≡ length l - (used - n) = omega arith in
+      removed-behind m p n used order (omega arith) ∙ ap (λ (y : List ℕ). zeros n ++ y) (e ∙ zeros-behind h used (omega arith)) ∙ zeros-add n (length l - used) ∙ ap zeros z
+
+  -- the redex is t₀
+  module _ (t₀ : Term) (is : redex t ≡ t₀) where
+    front : List ℕ
+    front = termFront k (termPath t) (4 + termSize t₀)
+
+    bytes₀ : take used l ≡ front ++ (encodeTermRecord t₀ ++ rests terms (termPath t))
+    unfolding front
+    bytes₀ = subst (λ (u : Term). take used l ≡ termFront k (termPath t) (4 + termSize u) ++ (encodeTermRecord u ++ rests terms (termPath t))) is (redex-bytes h)
+
+    used₀ : contentsAt + (4 + termSize t₀ + around terms (termPath t)) ≡ used
+    used₀ = subst (λ (u : Term). contentsAt + (4 + termSize u + around terms (termPath t)) ≡ used) is (redex-used h)
+
+    room₀ : place + (4 + termSize t₀) ≤ used
+    room₀ = subst (λ (u : Term). place + (4 + termSize u) ≤ used) is (redex-room h)
+
+    front₀ : length front ≡ place
+    unfolding front
+    front₀ = length-termFront k (termPath t) (4 + termSize t₀)
+
+    at₀ : TermAt l place k t₀
+    at₀ = term-same (redex-stands h) is
+
+    sound₀ : SoundTerm fitsWord k noVars t₀
+    sound₀ = subst (λ (u : Term). SoundTerm fitsWord k noVars u) is (redex-sound h)
+
+    -- any edit m of the bytes that leaves the term u there, and zeros behind the record
+    made : (u : Term) (m : List ℕ) (up down size : ℕ) → Redex t₀ → reduce fitsWord t₀ ≡ next u → termSize u + down ≡ termSize t₀ + up → used + up - down ≡ size
+        → size ≤ length l → take size m ≡ front ++ (encodeTermRecord u ++ rests terms (termPath t)) → drop size m ≡ zeros (length l - size)
+        → Performed k t (length l) (relengthAll (shifted up down) (length (termPath t)) m) (used + up - down)
+    unfolding front
+    made u m up down size r st sizes new fits bytes tail =
+        let d : Term = plug terms (termPath t) u in
+        let goes : reduce fitsWord t ≡ next d = redex-reduces t t₀ u is r st in
+        let short : used < 65536 = omega (arith, h .short, h .holds .within) in
+        let ld : length (encodeTerm k d) ≡ 12 + termSize d = length-encodeTerm k d in
+        let zd : termSize d ≡ termSize u + around terms (termPath t) = termSize-plug (termPath t) u in
+        let u₀ : contentsAt + (4 + termSize t₀ + around terms (termPath t)) ≡ used = used₀ in
+        let n : length (encodeTerm k d) ≡ size = omega arith in
+        let pad : padded (length l) (encodeTerm k d) ≡ encodeTerm k d ++ zeros (length l - size) =
+        padded-zeros (length l) (length l - size) (encodeTerm k d) (ap (λ (y : ℕ). length l - y) n) in
+        let eq : relengthAll (shifted up down) (length (termPath t)) m ≡ padded (length l) (encodeTerm k d) =
+        encodeTerm-relength k up down (4 + termSize t₀) size (termPath t) u m bytes (omega arith) (omega arith)
+        ∙ ap (λ (y : List ℕ). encodeTerm k d ++ y) tail ∙ sym pad in
+        let stands = stands-after d h goes (omega arith) in
+        let to : length (encodeTerm k d) ≡ used + up - down = n ∙ sym new in
+        record {
+          after = d;
+          reduces = goes;
+          bytes = eq;
+          size = sym to;
+          stands = subst (λ (y : List ℕ). Stands k d y (used + up - down)) (sym eq) (subst (λ (y : ℕ). Stands k d (padded (length l) (encodeTerm k d)) y) to stands);
+        }
+
+    -- a term of the same size stored over the redex
+    module _ (t₁ : Term) (same : termSize t₀ ≡ termSize t₁) where
+      over : List ℕ
+      over = put l place (encodeTermRecord t₁)
+
+      same-bytes : length (encodeTermRecord t₀) ≡ length (encodeTermRecord t₁)
+      same-bytes = length-encodeTermRecord t₀ ∙ ap (λ (y : ℕ). 4 + y) same ∙ sym (length-encodeTermRecord t₁)
+
+      over-take : take used over ≡ front ++ (encodeTermRecord t₁ ++ rests terms (termPath t))
+      unfolding over
+      over-take = put-take used l front (encodeTermRecord t₀) (rests terms (termPath t)) (encodeTermRecord t₁) place bytes₀ fits-buf front₀ same-bytes
+
+      over-length : length over ≡ length l
+      unfolding over
+      over-length = length-put l (encodeTermRecord t₁) place (omega (arith, room₀, fits-buf, length-encodeTermRecord t₁))
+
+      over-behind : drop used over ≡ drop used l
+      unfolding over
+      over-behind = drop-put l (encodeTermRecord t₁) place used (omega (arith, room₀, length-encodeTermRecord t₁)) (omega (arith, room₀, fits-buf))
+
+  -- EACH RULE
+
+  abbrev Made : ℕ → ℕ → List ℕ → Type 0
+  Made up down m = Performed k t (length l) (relengthAll (shifted up down) (length (termPath t)) m) (used + up - down)
+
+  letOne-made : (x v : ℕ) (a : Atom) (u : Term) → redex t ≡ letOne x (plain a) u → reduce fitsWord (letOne x (plain a) u) ≡ next (substitute (only x v) u)
+      → Made 0 16 (filledAt l place 16 (substitute (only x v) u) used)
+  unfolding filledAt simpleSize over
+  letOne-made x v a u is st =
+      let u₁ : Term = substitute (only x v) u in
+      let t₀ : Term = letOne x (plain a) u in
+      let t₁ : Term = letOne x (plain a) u₁ in
+      let zu : termSize u ≡ termSize u₁ = sym (termSize-substitute (only x v) u) in
+      let z₀ : termSize t₀ ≡ 16 + termSize u = termSize-letOne x (plain a) u in
+      let z₁ : termSize t₁ ≡ 16 + termSize u₁ = termSize-letOne x (plain a) u₁ in
+      let same : termSize t₀ ≡ termSize t₁ = omega arith in
+      let m : List ℕ = over t₀ is t₁ same in
+      let lm : length m ≡ length l = over-length t₀ is t₁ same in
+      let e : put l (place + 16) (encodeTermRecord u₁) ≡ m = put-letOne-last x (plain a) u u₁ (place + 16) (at₀ t₀ is .here) refl zu in
+      let order : place + 16 ≤ used = omega (arith, room₀ t₀ is) in
+      let fits : used ≤ length m = omega (arith, fits-buf) in
+      subst (λ (y : List ℕ). Made 0 16 (removed y place 16 used)) (sym e)
+      (made t₀ is u₁ (removed m place 16 used) 0 16 (used - 16) redexLetOne st (omega arith) (omega arith) (omega (arith, fits-buf))
+      (letOne-gone m (removed m place 16 used) (front t₀ is) (rests terms (termPath t)) place used fits (front₀ t₀ is) x a u₁ (over-take t₀ is t₁ same) (removed-cut m place 16 used order fits))
+      (tail-removed m place 16 lm (over-behind t₀ is t₁ same) order))
+
+  letAll-made : (f : Substitution) (ys : List Atom) (u : Term) → redex t ≡ letAll (tuple ys) u → reduce fitsWord (letAll (tuple ys) u) ≡ next (substitute f u)
+      → Made 0 (8 + 8 * length ys) (filledAt l place (8 + 8 * length ys) (substitute f u) used)
+  unfolding filledAt over
+  letAll-made f ys u is st =
+      let n : ℕ = 8 + 8 * length ys in
+      let u₁ : Term = substitute f u in
+      let t₀ : Term = letAll (tuple ys) u in
+      let t₁ : Term = letAll (tuple ys) u₁ in
+      let zu : termSize u ≡ termSize u₁ = sym (termSize-substitute f u) in
+      let zy : termSize (tuple ys) ≡ 8 * length ys = termSize-tuple ys in
+      let z₀ : termSize t₀ ≡ 8 + termSize (tuple ys) + termSize u = termSize-letAll (tuple ys) u in
+      let z₁ : termSize t₁ ≡ 8 + termSize (tuple ys) + termSize u₁ = termSize-letAll (tuple ys) u₁ in
+      let same : termSize t₀ ≡ termSize t₁ = omega arith in
+      let m : List ℕ = over t₀ is t₁ same in
+      let lm : length m ≡ length l = over-length t₀ is t₁ same in
+      let e : put l (place + n) (encodeTermRecord u₁) ≡ m = put-letAll-last (tuple ys) u u₁ (place + n) (at₀ t₀ is .here) (omega arith) zu in
+      let order : place + n ≤ used = omega (arith, room₀ t₀ is) in
+      let fits : used ≤ length m = omega (arith, fits-buf) in
+      subst (λ (y : List ℕ). Made 0 n (removed y place n used)) (sym e)
+      (made t₀ is u₁ (removed m place n used) 0 n (used - n) redexLetAll st (omega arith) (omega arith) (omega (arith, fits-buf))
+      (letAll-gone m (removed m place n used) (front t₀ is) (rests terms (termPath t)) place used fits (front₀ t₀ is) ys u₁ n refl (over-take t₀ is t₁ same) (removed-cut m place n used order fits))
+      (tail-removed m place n lm (over-behind t₀ is t₁ same) order))
+
+  numeral-made : (x v : ℕ) (s : Simple) (u : Term) → redex t ≡ letOne x s u → simpleSize s ≡ 12 → reduce fitsWord (letOne x s u) ≡ next (letOne x (plain (num v)) u)
+      → Made 0 4 (numeralAt l place used v)
+  unfolding numeralAt simpleSize
+  numeral-made x v s u is zs st =
+      let t₀ : Term = letOne x s u in
+      let t₁ : Term = letOne x (plain (num v)) u in
+      let z₀ : termSize t₀ ≡ 8 + simpleSize s + termSize u = termSize-letOne x s u in
+      let z₁ : termSize t₁ ≡ 16 + termSize u = termSize-letOne x (plain (num v)) u in
+      let read : val (part l place 2) ≡ 4 + termSize t₀ = term-read (at₀ t₀ is) (place + 2) refl .0 in
+      let less : 20 + termSize u ≡ val (part l place 2) - 4 = omega arith in
+      let order : place + 8 + 4 ≤ used = omega (arith, room₀ t₀ is) in
+      let room : place + 20 ≤ used = omega (arith, room₀ t₀ is) in
+      let m : List ℕ = removed l (place + 8) 4 used in
+      let lm : length m ≡ length l = length-removed l (place + 8) 4 used order fits-buf in
+      let w : List ℕ = le 2 (20 + termSize u) in
+      let lw : length w ≡ 2 = length-le 2 (20 + termSize u) in
+      let m₁ : List ℕ = put m place w in
+      let lm₁ : length m₁ ≡ length m = length-put m w place (omega (arith, fits-buf)) in
+      let m₂ : List ℕ = put m₁ (place + 8) (leafBytes 32 v) in
+      subst (λ (y : ℕ). Made 0 4 (put (put m place (le 2 y)) (place + 8) (leafBytes 32 v))) less
+      (made t₀ is t₁ m₂ 0 4 (used - 4) redexLetOne st (omega arith) (omega arith) (omega (arith, fits-buf))
+      (letOne-set l m (front t₀ is) (rests terms (termPath t)) place used fits-buf (front₀ t₀ is) x v s u zs (bytes₀ t₀ is) (removed-cut l (place + 8) 4 used order fits-buf))
+      (drop-put m₁ (leafBytes 32 v) (place + 8) (used - 4) (omega (arith, length-leafBytes 32 v)) (omega (arith, fits-buf)) ∙ drop-put m w place (used - 4) (omega arith) (omega (arith, fits-buf))
+      ∙ tail-removed l (place + 8) 4 refl refl order))
+
+  stop-made : (x : ℕ) (a : Atom) (ys : List Atom) (u : Term) → redex t ≡ rec x a ys u → reduce fitsWord (rec x a ys u) ≡ next (tuple ys)
+      → Made 0 (20 + termSize u) (stoppedAt l place k (20 + termSize u) used)
+  unfolding stoppedAt
+  stop-made x a ys u is st =
+      let d : ℕ = 20 + termSize u in
+      let n : ℕ = 4 + 8 * k in
+      let t₀ : Term = rec x a ys u in
+      let hk : length ys ≡ k = sound₀ t₀ is .2 in
+      let z₀ : termSize t₀ ≡ 20 + 8 * length ys + termSize u = termSize-rec x a ys u in
+      let z₁ : termSize (tuple ys) ≡ 8 * length ys = termSize-tuple ys in
+      let order : place + n + d ≤ used = omega (arith, room₀ t₀ is) in
+      let w : List ℕ = part l (place + 16) n in
+      let lw : length w ≡ n = length-part l (place + 16) n (omega (arith, fits-buf)) in
+      let m : List ℕ = put l place w in
+      let lm : length m ≡ length l = length-put l w place (omega (arith, fits-buf)) in
+      let fits : used ≤ length m = omega (arith, fits-buf) in
+      made t₀ is (tuple ys) (removed m (place + n) d used) 0 d (used - d) redexRec st (omega arith) (omega arith) (omega (arith, fits-buf))
+      (rec-stopped l m (removed m (place + n) d used) (front t₀ is) (rests terms (termPath t)) place used x a ys u k d hk refl (bytes₀ t₀ is) fits-buf (front₀ t₀ is) refl
+      (removed-cut m (place + n) d used order fits))
+      (tail-removed m (place + n) d lm (drop-put l w place used (omega arith) (omega (arith, fits-buf))) order)
+
+  unroll-made : (x q : ℕ) (a : Atom) (ys : List Atom) (u : Term) → redex t ≡ rec x a ys u → reduce fitsWord (rec x a ys u) ≡ next (letAll (rec x (num q) ys u) (letOne x (plain (num (suc q))) u))
+      → used + (24 + termSize u) ≤ length l → Made (24 + termSize u) 0 (unrolledAt l place k (24 + termSize u) used x (suc q))
+  unfolding spread unrolledAt simpleSize
+  unroll-made x q a ys u is st fits =
+      let up : ℕ = 24 + termSize u in
+      let n : ℕ = up + 8 * k in
+      let s : ℕ = 20 + 8 * k in
+      let t₀ : Term = rec x a ys u in
+      let hk : length ys ≡ k = sound₀ t₀ is .2 in
+      let b : Term = letOne x (plain (num (suc q))) u in
+      let t₁ : Term = letAll (rec x (num q) ys u) b in
+      let z₀ : termSize t₀ ≡ 20 + 8 * length ys + termSize u = termSize-rec x a ys u in
+      let y₁ : termSize b ≡ 16 + termSize u = termSize-letOne x (plain (num (suc q))) u in
+      let y₂ : termSize (rec x (num q) ys u) ≡ 20 + 8 * length ys + termSize u = termSize-rec x (num q) ys u in
+      let y₃ : termSize t₁ ≡ 8 + termSize (rec x (num q) ys u) + termSize b = termSize-letAll (rec x (num q) ys u) b in
+      let order : place + n ≤ used = omega (arith, room₀ t₀ is) in
+      let grow : n - 8 * k ≡ up = omega arith in
+      let m₁ : List ℕ = put l (place + n + 20) (part l (place + s) (used - (place + s))) in
+      let m₂ : List ℕ = put m₁ (place + 4) (part m₁ place n) in
+      let m₃ : List ℕ = put m₂ place (recordHead 38 (n + up)) in
+      let m₄ : List ℕ = put m₃ (place + 12) (leafBytes 32 (suc q - 1)) in
+      let m₅ : List ℕ = put m₄ (place + 4 + n) (lead 37 (up - 4) x 32 (suc q)) in
+      let e₃ : n + up ≡ n + n - 8 * k = omega arith in
+      let e₄ : suc q - 1 ≡ q = omega arith in
+      let e₅ : up - 4 ≡ 20 + termSize u = omega arith in
+      let bytes : take (used + (n - 8 * k)) m₅ ≡ front t₀ is ++ (encodeTermRecord t₁ ++ rests terms (termPath t)) =
+      rec-unrolled l (front t₀ is) (rests terms (termPath t)) place n used x q k a ys u (bytes₀ t₀ is) (front₀ t₀ is) hk (omega arith) (omega arith) m₁ m₂ m₃ m₄ m₅ refl refl
+      (ap (λ (y : ℕ). put m₂ place (recordHead 38 y)) e₃) (ap (λ (y : ℕ). put m₃ (place + 12) (leafBytes 32 y)) e₄)
+      (ap (λ (y : ℕ). put m₄ (place + 4 + n) (lead 37 y x 32 (suc q))) e₅) in
+      made t₀ is t₁ m₅ up 0 (used + up) redexRec st (omega arith) (omega arith) fits
+      (ap (λ (y : ℕ). take (used + y) m₅) (sym grow) ∙ bytes)
+      (unrolled-behind l place k up used x (suc q) (omega arith) order fits ∙ zeros-behind h (used + up) (omega arith))
+
+  -- THE TERMS THAT ARE SUBSTITUTED INTO, and the numerals of a let-all's tuple
+
+  letOne-last : (x : ℕ) (a : Atom) (u : Term) → redex t ≡ letOne x (plain a) u → RangedTerm l (place + 16) k u
+  unfolding letOne-view simpleSize
+  letOne-last x a u is =
+      let t₀ : Term = letOne x (plain a) u in
+      record { here = letOne-view x (plain a) u (at₀ t₀ is) .last-at; range = sound-ranged fitsWord k (adding x noVars) u (h .holds .k-high) (sound₀ t₀ is .2) }
+
+  letAll-last : (ys : List Atom) (u : Term) → redex t ≡ letAll (tuple ys) u → RangedTerm l (place + (8 + 8 * length ys)) k u
+  unfolding letAll-view
+  letAll-last ys u is =
+      let t₀ : Term = letAll (tuple ys) u in
+      record {
+        here = term-index (letAll-view (tuple ys) u (at₀ t₀ is) .last-at) (ap (λ (n : ℕ). place + (8 + n)) (termSize-tuple ys));
+        range = sound-ranged fitsWord k allVars u (h .holds .k-high) (sound₀ t₀ is .1);
+      }
+
+  letAll-first : (ys : List Atom) (u : Term) → redex t ≡ letAll (tuple ys) u → TermAt l (place + 4) k (tuple (map num (map valueOf ys)))
+  unfolding letAll-view closed closedIn
+  letAll-first ys u is =
+      let t₀ : Term = letAll (tuple ys) u in
+      term-same (letAll-view (tuple ys) u (at₀ t₀ is) .first-at) (ap tuple (closed-nums ys (sound-closed fitsWord k (tuple ys) (sound₀ t₀ is .0))))
+
+  -- ANY PLAN
+
+  performs-by : (t₀ : Term) (q : Plan) → Planned (length (termPath t)) place t₀ q → redex t ≡ t₀ → Moves (q .rule) → used + q .up ≤ length l + q .down
+      → (m : List ℕ) → Edited k q (q .rule) used l m → Performed k t (length l) (relengthAll (shifted (q .up) (q .down)) (q .levels) m) (used + q .up - q .down)
+  performs-by _ _ plannedFinished is moves fits m e = absurd moves
+  performs-by _ _ plannedOver is moves fits m e = absurd moves
+  performs-by _ _ (plannedLetOne {x} {v} {a} {u} st) is moves fits m e = subst (Made 0 16) (sym (e u (letOne-last x a u is))) (letOne-made x v a u is st)
+  performs-by _ _ (plannedNumeral {x} {v} {s} {u} z st) is moves fits m e = subst (Made 0 4) (sym e) (numeral-made x v s u is z st)
+  performs-by _ _ (plannedLetAll {ys} {u} st) is moves fits m e =
+      subst (Made 0 (8 + 8 * length ys)) (sym (e (map valueOf ys) u (letAll-first ys u is) (letAll-last ys u is))) (letAll-made (fromStore (map valueOf ys)) ys u is st)
+  performs-by _ _ (plannedStop {x} {a} {ys} {u} st) is moves fits m e = subst (Made 0 (20 + termSize u)) (sym e) (stop-made x a ys u is st)
+  performs-by _ _ (plannedUnroll {x} {q} {a} {ys} {u} st) is moves fits m e = subst (Made (24 + termSize u) 0) (sym e) (unroll-made x q a ys u is st (omega arith))
+
+  planned : Planned (length (termPath t)) place (redex t) (planOf t)
+  unfolding planOf
+  planned = planned-redex (length (termPath t)) place (redex t)
+
+  -- the edit and the lengths of the plan are the reduction
+  pub performs : (q : Plan) → q ≡ planOf t → Moves (q .rule) → used + q .up ≤ length l + q .down → (m₁ m₂ : List ℕ) → Edited k q (q .rule) used l m₁
+      → m₂ ≡ relengthAll (shifted (q .up) (q .down)) (q .levels) m₁ → Performed k t (length l) m₂ (used + q .up - q .down)
+  performs q e moves fits m₁ m₂ e₁ e₂ =
+      subst (λ (y : List ℕ). Performed k t (length l) y (used + q .up - q .down)) (sym e₂)
+      (performs-by (redex t) q (subst (λ (y : Plan). Planned (length (termPath t)) place (redex t) y) (sym e) planned) refl moves fits m₁ e₁)
+
+  -- WHAT THE CODE ASKS
+
+  asks-by : (t₀ : Term) (q : Plan) → Planned (length (termPath t)) place t₀ q → redex t ≡ t₀ → used + q .up ≤ length l + q .down → PlanFits k q l used
+  unfolding simpleSize
+  asks-by _ _ plannedFinished is fits = record { edit = tt; levels = omega (arith, redex-room h, fits-buf); up = omega arith; down = omega arith }
+  asks-by _ _ plannedOver is fits = record { edit = tt; levels = omega (arith, redex-room h, fits-buf); up = omega arith; down = omega arith }
+  asks-by _ _ (plannedLetOne {x} {v} {a} {u} st) is fits =
+      let t₀ : Term = letOne x (plain a) u in
+      let z : termSize t₀ ≡ 8 + simpleSize (plain a) + termSize u = termSize-letOne x (plain a) u in
+      let room : place + (4 + termSize t₀) ≤ used = room₀ t₀ is in
+      let low : x < 17 = omega (arith, sound₀ t₀ is .0 .1, h .holds .k-high) in
+      record { edit = ((u, letOne-last x a u is), low, omega arith); levels = omega (arith, fits-buf); up = omega arith; down = omega arith }
+  asks-by _ _ (plannedNumeral {x} {v} {s} {u} e st) is fits =
+      let t₀ : Term = letOne x s u in
+      let z : termSize t₀ ≡ 8 + simpleSize s + termSize u = termSize-letOne x s u in
+      let room : place + (4 + termSize t₀) ≤ used = room₀ t₀ is in
+      let read : val (part l place 2) ≡ 4 + termSize t₀ = term-read (at₀ t₀ is) (place + 2) refl .0 in
+      record { edit = (omega arith, omega arith); levels = omega (arith, fits-buf); up = omega arith; down = omega arith }
+  asks-by _ _ (plannedLetAll {ys} {u} st) is fits =
+      let t₀ : Term = letAll (tuple ys) u in
+      let z : termSize t₀ ≡ 8 + termSize (tuple ys) + termSize u = termSize-letAll (tuple ys) u in
+      let y : termSize (tuple ys) ≡ 8 * length ys = termSize-tuple ys in
+      let room : place + (4 + termSize t₀) ≤ used = room₀ t₀ is in
+      record {
+        edit = ((map valueOf ys, letAll-first ys u is), (u, letAll-last ys u is), h .holds .k-high, omega arith);
+        levels = omega (arith, fits-buf);
+        up = omega arith;
+        down = omega arith;
+      }
+  asks-by _ _ (plannedStop {x} {a} {ys} {u} st) is fits =
+      let t₀ : Term = rec x a ys u in
+      let z : termSize t₀ ≡ 20 + 8 * length ys + termSize u = termSize-rec x a ys u in
+      let hk : length ys ≡ k = sound₀ t₀ is .2 in
+      let room : place + (4 + termSize t₀) ≤ used = room₀ t₀ is in
+      record { edit = (omega arith, omega arith); levels = omega (arith, fits-buf); up = omega arith; down = omega arith }
+  asks-by _ _ (plannedUnroll {x} {q} {a} {ys} {u} st) is fits =
+      let t₀ : Term = rec x a ys u in
+      let z : termSize t₀ ≡ 20 + 8 * length ys + termSize u = termSize-rec x a ys u in
+      let hk : length ys ≡ k = sound₀ t₀ is .2 in
+      let room : place + (4 + termSize t₀) ≤ used = room₀ t₀ is in
+      let small : length l ≤ 16384 = h .short in
+      record { edit = (omega arith, omega arith, omega arith, omega arith); levels = omega (arith, fits-buf); up = omega arith; down = omega arith }
+
+  plan-fits : (q : Plan) → q ≡ planOf t → used + q .up ≤ length l + q .down → PlanFits k q l used
+  plan-fits q e fits = asks-by (redex t) q (subst (λ (y : Plan). Planned (length (termPath t)) place (redex t) y) (sym e) planned) refl fits
+
+pub ready-fits : {k : ℕ} {t : Term} {l : List ℕ} {used : ℕ} (q : Plan) → Ready k t l used q → PlanFits k q l used
+ready-fits q h = plan-fits (h .stands) q (h .plans) (h .fits)

@@ -1,0 +1,76 @@
+-- Laws of a closed term that stands in a buffer: the bytes of its redex, and a reduction.
+use Prim.Native.Nat.{ℕ, _*_, _+_, _-_, _≤_}
+use mathlib.Core.Path.{_≡_, _∙_, ap, subst, sym}
+use mathlib.Core.List.{List, _++_}
+use lib.ListN.{drop, length, length-append, take}
+use lib.Seq.{length-take-le}
+use native.Mathlib.Omega.{arith}
+use Rattle.buffer.specs.Slice.{zeros}
+use Rattle.record.specs.Answers.{padded}
+use Rattle.record.specs.Header.{contentsAt, encodeTerm}
+use Rattle.record.specs.Term.{encodeTermRecord, termSize}
+use Rattle.rules.specs.FreeVariables.{noVars}
+use Rattle.rules.specs.Reduction.{reduce}
+use Rattle.rules.specs.Sound.{SoundTerm}
+use Rattle.rules.specs.Store.{fitsWord}
+use Rattle.rules.specs.Syntax.{Answer, Term, next}
+use Rattle.place.specs.Nesting.{around, plug, rests}
+use Rattle.place.specs.TermPath.{redex, termPath, terms}
+use Rattle.place.specs.TermView.{TermAt}
+use Rattle.place.specs.Whole.{termFront}
+use Rattle.record.proofs.AnswerLaws.{drop-padded, length-padded}
+use Rattle.record.proofs.HoldingLaws.{padded-term, term-size}
+use Rattle.rules.proofs.SoundTermLaws.{SoundAnswer, sound-reduce}
+use Rattle.rules.proofs.StoreLaws.{word-limit}
+use Rattle.place.proofs.NestingLaws.{plug-keeps}
+use Rattle.place.proofs.TermBytesLaws.{length-encodeTermRecord}
+use Rattle.place.proofs.TermPathLaws.{plug-redex, redex-at, termSize-plug}
+use Rattle.place.proofs.WholeLaws.{encodeTerm-plug, length-termFront, term-at, term-used}
+use Rattle.reducing.specs.State.{Stands}
+
+-- A REDUCTION leaves a closed term that stands again, where it fits
+
+sound-after : (k : ℕ) (t u : Term) → SoundTerm fitsWord k noVars t → reduce fitsWord t ≡ next u → SoundTerm fitsWord k noVars u
+sound-after k t u h e = subst (λ (a : Answer Term). SoundAnswer fitsWord word-limit k a) e (sound-reduce fitsWord word-limit k t h)
+
+pub stands-after : {k : ℕ} {t : Term} {buf : List ℕ} {used : ℕ} (u : Term) → Stands k t buf used → reduce fitsWord t ≡ next u → length (encodeTerm k u) ≤ length buf
+    → Stands k u (padded (length buf) (encodeTerm k u)) (length (encodeTerm k u))
+stands-after {k} {t} {buf} u h e fits =
+    let n : length (padded (length buf) (encodeTerm k u)) ≡ length buf = length-padded (length buf) (encodeTerm k u) fits in
+    record {
+      holds = padded-term noVars k u (length buf) (h .holds .k-low) (h .holds .k-high) (sound-after k t u (h .holds .sound) e);
+      short = omega (arith, h .short);
+      clear = ap (λ (m : ℕ). padded m (encodeTerm k u)) (sym n);
+    }
+
+-- THE REDEX, in its bytes
+
+module _ {k : ℕ} {t : Term} {l : List ℕ} {used : ℕ} (h : Stands k t l used) where
+  pub redex-bytes : take used l ≡ termFront k (termPath t) (4 + termSize (redex t)) ++ (encodeTermRecord (redex t) ++ rests terms (termPath t))
+  redex-bytes = h .holds .bytes ∙ ap (encodeTerm k) (sym (plug-redex t)) ∙ encodeTerm-plug k (termPath t) (redex t)
+
+  -- the record's length, from the redex
+  pub redex-used : contentsAt + (4 + termSize (redex t) + around terms (termPath t)) ≡ used
+  redex-used =
+      let e : termSize (redex t) + around terms (termPath t) ≡ termSize t = sym (termSize-plug (termPath t) (redex t)) ∙ ap termSize (plug-redex t) in
+      omega (arith, term-used (h .holds))
+
+  pub redex-room : contentsAt + 4 * length (termPath t) + (4 + termSize (redex t)) ≤ used
+  redex-room =
+      let a : List ℕ = termFront k (termPath t) (4 + termSize (redex t)) in
+      let b : List ℕ = encodeTermRecord (redex t) in
+      let e : used ≡ length a + (length b + length (rests terms (termPath t))) =
+      sym (length-take-le used l (h .holds .within)) ∙ ap length redex-bytes ∙ rw (length-append a (b ++ rests terms (termPath t)), length-append b (rests terms (termPath t))) in
+      omega (arith, length-termFront k (termPath t) (4 + termSize (redex t)), length-encodeTermRecord (redex t))
+
+  pub redex-stands : TermAt l (contentsAt + 4 * length (termPath t)) k (redex t)
+  redex-stands = redex-at (term-at (h .holds) (h .short))
+
+  pub redex-sound : SoundTerm fitsWord k noVars (redex t)
+  redex-sound =
+      plug-keeps terms (λ (u : Term). SoundTerm fitsWord k noVars u) (λ u r w. w .0) (termPath t) (redex t)
+      (subst (λ (u : Term). SoundTerm fitsWord k noVars u) (sym (plug-redex t)) (h .holds .sound))
+
+  -- zeros behind it
+  pub zeros-behind : (n : ℕ) → used ≤ n → drop n l ≡ zeros (length l - n)
+  zeros-behind n u = ap (drop n) (h .clear) ∙ drop-padded (length l) n (encodeTerm k t) (omega (arith, term-size (h .holds)))
