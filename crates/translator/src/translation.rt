@@ -9,13 +9,11 @@ ghost use Rattle.rules.specs.Translation.{translate};
 ghost use Rattle.record.specs.Answers.{padded};
 ghost use Rattle.record.specs.Header.{encodeTerm};
 ghost use Rattle.record.specs.Holding.{ProgramIn};
-ghost use Rattle.place.specs.Heads.{recordHead};
 ghost use Rattle.translator.specs.RowTranslation.{RowAt, allBytes, rowBytes, rowSize};
 ghost use Rattle.translator.specs.TranslationHeads.{bindingBytes, letAllHead, letOneHead, letOneSize, u16At};
 ghost use Rattle.translator.specs.TranslationTasks.{Opens, PartsOf, TaskIn, cutAt, pastHeads};
-
-// Where the contents of a program's or a term's record start: behind its length, kind and k.
-const CONTENTS: usize = 8;
+use edit::put_head;
+use record::HEADER_LENGTH;
 
 // A row of commands, from `from` up to `to` in the source, and the place of its translation, from `start` up to `stop` in
 // the output.
@@ -79,15 +77,7 @@ pub fn translation_size(src: &[u8], used: usize, k: u32) -> usize
     requires { ⌜ ((P : Block) × ProgramIn k P (now src) used) × (length (now src) ≤ 16384) ⌝ }
     ensures { λ r. ⌜ ((P : Block) → ProgramIn k P (now (src .entry)) used → r ≡ length (encodeTerm k (translate k P))) ⌝ }
 {
-    CONTENTS + row_size(src, CONTENTS + 4, used, k)
-}
-
-fn put_head(buf: &mut [u8], at: usize, kind: usize, n: usize)
-    requires { ⌜ at + 4 ≤ length (now buf) ⌝ }
-    ensures { λ _. ⌜ now (buf .exit) ≡ put (now (buf .entry)) at (recordHead kind n) ⌝ }
-{
-    buffer::put_u16(buf, at, n);
-    buffer::put_u16(buf, at + 2, kind);
+    HEADER_LENGTH + row_size(src, HEADER_LENGTH + 4, used, k)
 }
 
 fn write_tuple(out: &mut [u8], o: usize, k: u32)
@@ -243,9 +233,9 @@ pub fn write_translation(src: &[u8], used: usize, k: u32, out: &mut [u8])
     put_head(out, 0, 40, total);
     buffer::put_u32(out, 4, k);
     let whole = Task {
-        from: CONTENTS + 4,
+        from: HEADER_LENGTH + 4,
         to: used,
-        start: CONTENTS,
+        start: HEADER_LENGTH,
         stop: total,
     };
     write_row(src, whole, k, out);
