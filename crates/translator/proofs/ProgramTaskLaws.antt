@@ -1,8 +1,8 @@
 -- A program's commands as a row, and its translation's record as what is stored.
 use Prim.Native.Nat.{_+_, _-_, _≤_, ℕ}
-use mathlib.Core.Path.{ap, refl, sym, _∙_, _≡_}
-use mathlib.Core.List.{_++_, List, append-assoc}
-use lib.ListN.{length, length-append}
+use mathlib.Core.Path.{ap, sym, _∙_, _≡_}
+use mathlib.Core.List.{_++_, List}
+use lib.ListN.{length}
 use native.Mathlib.Omega.{arith}
 use Rattle.buffer.specs.LittleEndian.{le}
 use Rattle.buffer.specs.Slice.{put, zeros}

@@ -1,11 +1,11 @@
 -- The translation of a row by its first command: bytes and sizes.
 use Prim.Native.Nat.{_*_, _+_, _≤_, ℕ}
-use mathlib.Core.Path.{ap, refl, sym, _∙_, _≡_}
+use mathlib.Core.Path.{ap, refl, _∙_, _≡_}
 use mathlib.Core.List.{_++_, List, append-assoc}
 use lib.ListN.{length}
 use native.Mathlib.Omega.{arith}
 use Rattle.buffer.specs.LittleEndian.{le}
-use Rattle.rules.specs.Syntax.{Block, Bound, Expr, Term, assign, empty, letAll, loop, nest, rec, tuple}
+use Rattle.rules.specs.Syntax.{Block, Bound, Expr, Term, assign, empty, loop, nest, rec, tuple}
 use Rattle.rules.specs.Translation.{all, atomOf, simpleOf, translate}
 use Rattle.record.specs.Program.{blockSize}
 use Rattle.record.specs.Term.{encodeAtom, encodeSimple, encodeTermRecord, simpleSize, termSize}

@@ -5,20 +5,19 @@ use mathlib.Core.Bool.{Bool, false, true}
 use mathlib.Core.List.{_++_, List, append-assoc}
 use borrow.Author.Tests.{eq-eqb, eqb-false, eqb-true, ltb-false, ltb-true, ne-eqb}
 use lib.Dec.{eqb, ltb}
-use lib.ListN.{length, length-append}
+use lib.ListN.{length}
 use native.Mathlib.Omega.{arith}
-use Rattle.buffer.specs.LittleEndian.{le, val}
-use Rattle.buffer.specs.Slice.{part}
+use Rattle.buffer.specs.LittleEndian.{le}
 use Rattle.rules.specs.Syntax.{Block, Bound, Expr, assign, empty, loop, nest}
-use Rattle.rules.specs.Translation.{atomOf, simpleOf}
+use Rattle.rules.specs.Translation.{simpleOf}
 use Rattle.record.specs.Program.{blockSize, boundKind, boundNumber, exprKind, exprNumber}
-use Rattle.record.specs.Term.{encodeSimple, simpleSize}
+use Rattle.record.specs.Term.{encodeSimple}
 use Rattle.place.specs.Heads.{recordHead}
 use Rattle.place.specs.ProgramView.{BlockAt, append}
 use Rattle.place.proofs.ProgramBytesLaws.{blockSize-append, blockSize-some}
 use Rattle.place.proofs.ProgramViewLaws.{as-assign, as-loop, as-nest, block-room, command-kind, row-empty}
 use Rattle.place.proofs.TranslatedLaws.{atomOf-bytes, simpleOf-high, simpleOf-low, simpleSize-high, simpleSize-low}
-use Rattle.translator.specs.RowTranslation.{RowAt, allBytes, rowBytes, rowSize}
+use Rattle.translator.specs.RowTranslation.{RowAt, rowBytes, rowSize}
 use Rattle.translator.specs.TranslationHeads.{bindingBytes, letAllHead, letAllSize, letOneHead, letOneSize, opening, u16At, u32At}
 use Rattle.translator.proofs.RowTranslationLaws.{rowBytes-assign, rowBytes-loop, rowBytes-nest, rowSize-append, rowSize-assign, rowSize-loop, rowSize-nest}
 use Rattle.translator.proofs.TranslationHeadsLaws.{letAllHead-loop, letAllHead-nest, letOneHead-high, letOneHead-low, letOneSize-high, letOneSize-low}

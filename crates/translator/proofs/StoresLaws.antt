@@ -1,6 +1,6 @@
 -- Stores one behind the other are one store.
 use Prim.Native.Nat.{_+_, _≤_, ℕ}
-use mathlib.Core.Path.{ap, refl, _∙_, _≡_}
+use mathlib.Core.Path.{ap, _∙_, _≡_}
 use mathlib.Core.List.{_++_, List, append-assoc}
 use lib.ListN.{length, length-append}
 use native.Mathlib.Omega.{arith}

@@ -9,15 +9,15 @@ use lib.ListN.{length, length-append}
 use native.Mathlib.Omega.{arith}
 use Rattle.buffer.specs.Slice.{put}
 use Rattle.buffer.proofs.SliceLaws.{put-put, put-put-front}
-use Rattle.rules.specs.Syntax.{Block, empty}
+use Rattle.rules.specs.Syntax.{Block}
 use Rattle.record.specs.Program.{blockSize}
 use Rattle.place.proofs.ProgramViewLaws.{block-index}
 use Rattle.translator.specs.RowTranslation.{RowAt, allBytes, rowBytes, rowSize}
 use Rattle.translator.specs.TranslationHeads.{letAllHead, letAllSize, letOneHead, letOneSize, opening, u16At}
-use Rattle.translator.specs.TranslationTasks.{Left, Opens, PartsOf, TaskIn, cutAt, pastHeads}
+use Rattle.translator.specs.TranslationTasks.{Left, PartsOf, TaskIn, cutAt, pastHeads}
 use Rattle.translator.specs.declared.translation.Parts.{Parts}
 use Rattle.translator.specs.declared.translation.Task.{Task}
-use Rattle.translator.proofs.RowTranslationLaws.{length-rowBytes, rowBytes-empty, rowSize-empty, rowSize-least}
+use Rattle.translator.proofs.RowTranslationLaws.{length-rowBytes, rowBytes-empty, rowSize-least}
 use Rattle.translator.proofs.RowViewLaws.{Opened, row-assign, row-four, row-none, row-open, row-room}
 
 abbrev pub row-index : {l : List ℕ} {p p₁ q q₁ : ℕ} → RowAt l p q → p ≡ p₁ → q ≡ q₁ → RowAt l p₁ q₁

@@ -1,10 +1,9 @@
 -- What the writers of heads leave, and how long the heads are.
 use Prim.Native.Nat.{_*_, _+_, _<_, _≤_, ℕ}
 use mathlib.Core.Path.{ap, refl, sym, _∙_, _≡_}
-use mathlib.Core.Bool.{Bool, false, true}
 use mathlib.Core.List.{_++_, List, append-assoc}
 use borrow.Author.Tests.{eq-eqb, le-ltb, lt-ltb, ne-eqb}
-use lib.Dec.{eqb, ltb}
+use lib.Dec.{ltb}
 use lib.ListN.{length, length-append}
 use native.Mathlib.Omega.{arith}
 use Rattle.buffer.specs.LittleEndian.{le}
@@ -13,8 +12,7 @@ use Rattle.buffer.proofs.LittleEndianLaws.{length-le}
 use Rattle.place.specs.Heads.{recordHead}
 use Rattle.place.proofs.HeadsLaws.{length-recordHead}
 use Rattle.translator.specs.RowTranslation.{allBytes}
-use Rattle.translator.specs.TranslationHeads.{bindingBytes, boundBytes, letAllHead, letAllHeadIf, letAllSize, letOneHead, letOneSize, opening, u16At, u32At}
-use Rattle.translator.proofs.RowTranslationLaws.{length-allBytes}
+use Rattle.translator.specs.TranslationHeads.{bindingBytes, boundBytes, letAllHead, letAllHeadIf, letOneHead, letOneSize, u16At, u32At}
 use Rattle.translator.proofs.StoresLaws.{stores2, stores3}
 
 -- A VARIABLE AND AN ATOM

@@ -1,7 +1,7 @@
 -- The tuple of all variables, written one atom after the other.
 use Prim.Native.Nat.{_*_, _+_, _-_, _<_, _≤_, suc, ℕ}
-use mathlib.Core.Path.{ap, refl, sym, _∙_, _≡_}
-use mathlib.Core.List.{_++_, List, []}
+use mathlib.Core.Path.{refl, _∙_, _≡_}
+use mathlib.Core.List.{_++_, List}
 use lib.ListN.{length, length-append}
 use native.Mathlib.Omega.{arith}
 use Rattle.buffer.specs.LittleEndian.{le}

@@ -4,7 +4,6 @@ use Rattle.translator.proofs.translation.write_let_all.Statement.{state
 use Rattle.translator.proofs.translation.write_let_all.Tie as tie
 use native.Mathlib.Omega.{arith}
 use mathlib.Core.Path.{ap, sym, _∙_, _≡_}
-use mathlib.Core.List.{List}
 use Prim.Native.Nat.{ℕ, _+_, _-_, _*_}
 use Rattle.buffer.specs.Slice.{put}
 use Rattle.place.specs.Heads.{recordHead}
