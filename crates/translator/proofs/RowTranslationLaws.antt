@@ -21,10 +21,6 @@ pub length-rowBytes : (k : ℕ) (b : Block) → length (rowBytes k b) ≡ rowSiz
 unfolding rowBytes rowSize
 length-rowBytes k b = length-encodeTermRecord (translate k b)
 
-pub length-allBytes : (k : ℕ) → length (allBytes k) ≡ 4 + 8 * k
-unfolding allBytes
-length-allBytes k = length-encodeTermRecord (tuple (all k)) ∙ omega (arith, termSize-tuple (all k), length-refs 1 k)
-
 -- SIZES
 
 pub rowSize-empty : (k : ℕ) → rowSize k empty ≡ 4 + 8 * k

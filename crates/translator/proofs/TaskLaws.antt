@@ -47,11 +47,6 @@ pub letAllSize-nest : (k kind : ℕ) → (kind ≡ 3 → ⊥) → letAllSize k (
 unfolding letAllSize
 letAllSize-nest k kind h = rw (ne-eqb kind 3 h) refl
 
-pub letAllSize-least : (k : ℕ) (b : Bool) → 4 ≤ letAllSize k b
-unfolding letAllSize
-letAllSize-least k true = omega arith
-letAllSize-least k false = omega arith
-
 module _ (k : ℕ) (src : List ℕ) (t : Task) (kind f s : ℕ) (read : kind ≡ u16At src (t .from + 2)) where
   past-is : f ≡ t .from + opening (eqb kind 3) → s ≡ t .start + letAllSize k (eqb kind 3)
       → _≡_ {A = Task} (record { from = f; to = t .to; start = s; stop = t .stop }) (pastHeads k src t)
