@@ -9,7 +9,6 @@ ghost use Rattle.rules.specs.FreeVariables.{allVars, closed, closedAtom, closed
 ghost use Rattle.rules.specs.Syntax.{Atom, Term};
 ghost use Rattle.filling.specs.Marks.{marked};
 ghost use Rattle.filling.specs.Ranged.{RangedAtom, RangedAtoms, RangedTerm};
-use crate::path::CONTENTS;
 use crate::path::LET_ALL;
 use crate::path::LET_ONE;
 use crate::path::TUPLE;
@@ -17,6 +16,7 @@ use crate::path::VARIABLE;
 use crate::path::bound_atom;
 use buffer::get_u16;
 use buffer::get_u32;
+use record::HEADER_LENGTH;
 
 fn closed_atom(buf: &[u8], at: usize, bound: &[bool; 17]) -> bool
     requires { ⌜ ((a : Atom) × RangedAtom (now buf) at a) ⌝ }
@@ -77,5 +77,5 @@ pub fn is_closed(buf: &[u8], used: usize, k: u32) -> bool
     requires { ⌜ ((t : Term) × TermIn allVars k t (now buf) used) × (length (now buf) ≤ 16384) ⌝ }
     ensures { λ r. ⌜ ((t : Term) → TermIn allVars k t (now (buf .entry)) used → r ≡ closed t) ⌝ }
 {
-    closed_at(buf, CONTENTS, k)
+    closed_at(buf, HEADER_LENGTH, k)
 }

@@ -8,16 +8,16 @@ ghost use Rattle.record.specs.Holding.{TermIn};
 ghost use Rattle.record.specs.Rows.{finishedTerm};
 ghost use Rattle.rules.specs.FreeVariables.{allVars, noVars};
 ghost use Rattle.rules.specs.Syntax.{Term, num, tuple};
-use crate::path::CONTENTS;
 use crate::path::TUPLE;
 use buffer::get_u16;
 use buffer::get_u32;
+use record::HEADER_LENGTH;
 
 pub fn is_finished(buf: &[u8], used: usize) -> bool
     requires { ⌜ ((k : ℕ) × ((t : Term) × TermIn allVars k t (now buf) used)) × (length (now buf) ≤ 16384) ⌝ }
     ensures { λ r. ⌜ ((k : ℕ) (t : Term) → TermIn allVars k t (now (buf .entry)) used → r ≡ finishedTerm t) ⌝ }
 {
-    get_u16(buf, CONTENTS + 2) == TUPLE
+    get_u16(buf, HEADER_LENGTH + 2) == TUPLE
 }
 
 // The numeral number i of the row of atoms at an index.
@@ -34,7 +34,7 @@ pub fn copy_numerals(buf: &[u8], used: usize, k: u32, store: &mut [u32])
 {
     let mut i = 0;
     while i < store.len() {
-        store[i] = numeral(buf, CONTENTS + 4, i);
+        store[i] = numeral(buf, HEADER_LENGTH + 4, i);
         i += 1;
     }
 }

@@ -6,9 +6,6 @@ ghost use lib.ListN.{length};
 ghost use Rattle.filling.specs.BoundAtom.{boundAtom};
 use buffer::get_u16;
 
-// Where a record's contents start.
-pub const CONTENTS: usize = 8;
-
 // Kinds, as 01 numbers them.
 pub const NUMERAL: usize = 32;
 

@@ -13,7 +13,6 @@ ghost use Rattle.rules.specs.Substitution.{fromStore, substitute, substituteAto
 ghost use Rattle.rules.specs.Syntax.{Atom, Term};
 ghost use Rattle.filling.specs.Ranged.{RangedAtom, RangedAtoms, RangedTerm};
 ghost use Rattle.filling.specs.Values.{substitutionOf};
-use crate::path::CONTENTS;
 use crate::path::LET_ALL;
 use crate::path::LET_ONE;
 use crate::path::NUMERAL;
@@ -27,6 +26,7 @@ use buffer::get_u32;
 use buffer::put_u16;
 use buffer::put_u32;
 use buffer::zero;
+use record::HEADER_LENGTH;
 
 fn substitute_atom(buf: &mut [u8], at: usize, values: &[u64; 17])
     requires { ⌜ ((a : Atom) × RangedAtom (now buf) at a) × (length (now values) ≡ 17) ⌝ }
@@ -89,7 +89,7 @@ pub fn substitute_record(buf: &mut [u8], used: usize, k: u32, store: &[u32])
     requires { ⌜ ((t : Term) × TermIn allVars k t (now buf) used) × (length (now buf) ≤ 16384) × (length (now store) ≡ k) ⌝ }
     ensures { λ _. ⌜ ((t : Term) → TermIn allVars k t (now (buf .entry)) used → now (buf .exit) ≡ padded (length (now (buf .entry))) (encodeTerm k (substitute (fromStore (now (store .entry))) t))) ⌝ }
 {
-    substitute_at(buf, CONTENTS, k, from_store(store));
+    substitute_at(buf, HEADER_LENGTH, k, from_store(store));
     let behind = buf.len() - used;
     zero(buf, used, behind);
 }

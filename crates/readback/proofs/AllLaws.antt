@@ -1,10 +1,9 @@
 -- The loop that holds the atoms of a tuple against the variables 1 to k.
-use Prim.Native.Nat.{_+_, _<_, _≤_, suc, ℕ}
+use Prim.Native.Nat.{_+_, _<_, _≤_, ℕ}
 use mathlib.Core.Path.{ap, refl, sym, _∙_, _≡_}
 use mathlib.Core.Bool.{_&&_, false, true}
 use mathlib.Core.List.{List, [], _∷_}
 use borrow.Author.Tests.{eq-eqb, ne-eqb}
-use lib.Dec.{eqb}
 use lib.ListN.{length}
 use native.Mathlib.Numerals.{add-one}
 use native.Mathlib.Omega.{arith}
@@ -12,7 +11,7 @@ use Rattle.buffer.specs.LittleEndian.{val}
 use Rattle.buffer.specs.Slice.{part}
 use Rattle.place.specs.TermView.{AtomAt, AtomsAt}
 use Rattle.rules.specs.ReadBack.{sameAtom, sameAtoms}
-use Rattle.rules.specs.Syntax.{Atom, num, ref}
+use Rattle.rules.specs.Syntax.{Atom, ref}
 use Rattle.rules.specs.Translation.{all, refs}
 use Rattle.place.proofs.TermViewLaws.{as-num, as-ref, atom-kind, atom-view, atoms-first}
 

@@ -1,22 +1,23 @@
 -- The commands of a term: for a translation they are the program's, and they come term by term in the order of the bytes.
 use Prim.Native.Nat.{_+_, _-_, _<_, _≤_, ℕ}
-use mathlib.Core.Path.{ap, ap₂, refl, sym, _∙_, _≡_}
+use mathlib.Core.Path.{ap, refl, sym, _∙_, _≡_}
 use mathlib.Core.List.{_++_, List, [], append-assoc, append-nil, _∷_}
 use mathlib.Core.Option.{some}
 use lib.ListN.{length, length-append}
 use native.Mathlib.Omega.{arith}
-use Rattle.buffer.specs.LittleEndian.{le, val}
+use Rattle.buffer.specs.LittleEndian.{val}
 use Rattle.buffer.specs.Slice.{part}
+use Rattle.place.specs.Edit.{lead, leafBytes}
 use Rattle.place.specs.Heads.{recordHead}
-use Rattle.place.specs.TermView.{TermAt, TermView, isLetAllAt, isLetOneAt, isRecAt, isTupleAt, simpleKind}
+use Rattle.place.specs.TermView.{TermAt, simpleKind}
 use Rattle.record.specs.Header.{encodeProgram}
 use Rattle.record.specs.Program.{blockSize, boundFrom, boundKind, boundNumber, encodeBlock, encodeBound, encodeExpr, exprFrom, exprKind, exprNumber}
 use Rattle.record.specs.Term.{atomKind, atomNumber, kindOfTerm}
 use Rattle.rules.specs.FreeVariables.{atomOfSimple}
 use Rattle.rules.specs.ReadBack.{readBack}
-use Rattle.rules.specs.Syntax.{Atom, Block, Bound, Expr, Simple, Term, assign, empty, letAll, letOne, loop, nest, rec, tuple}
+use Rattle.rules.specs.Syntax.{Atom, Block, Bound, Expr, Term, assign, empty, letAll, letOne, loop, nest, rec, tuple}
 use Rattle.rules.specs.Translation.{atomOf, simpleOf, translate}
-use Rattle.buffer.proofs.LittleEndianLaws.{length-le}
+use Rattle.place.proofs.EditLaws.{length-lead}
 use Rattle.place.proofs.HeadsLaws.{length-recordHead}
 use Rattle.place.proofs.ProgramBytesLaws.{encodeBlock-assign, encodeBlock-empty, encodeBlock-loop, encodeBlock-nest, encodeLeaf-head}
 use Rattle.place.proofs.SourceKindLaws.{kind-atomOf, kind-simpleOf, number-atomOf, number-simpleOf, kindOfTerm-rec}
@@ -24,7 +25,7 @@ use Rattle.place.proofs.TermViewLaws.{as-letAll, as-letOne, as-rec, as-tuple, t
 use Rattle.record.proofs.HeaderLaws.{length-encodeProgram}
 use Rattle.record.proofs.ProgramLaws.{length-encodeBlock}
 use Rattle.rules.proofs.ReadBackLaws.{translate-readBack}
-use Rattle.readback.specs.CommandBytes.{assignBytes, commandsOf, commandsOfAll, leafBytes, letOneBytes, loopBytes, nestBytes, ownCommand, recBytes}
+use Rattle.readback.specs.CommandBytes.{commandsOf, commandsOfAll, loopBytes, nestBytes, ownCommand}
 use Rattle.readback.specs.Scan.{TermsAt, inner, ownSize}
 use Rattle.readback.proofs.ScanLaws.{simple-least, terms-end, terms-first, terms-order}
 
@@ -51,7 +52,7 @@ nest-translate k (loop x b c r) n = refl
 nest-translate k (nest c r) n = refl
 
 commands-translate : (k : ℕ) (b : Block) → commandsOf (translate k b) ≡ encodeBlock b
-unfolding commandsOf translate assignBytes loopBytes nestBytes
+unfolding commandsOf translate lead loopBytes nestBytes
 commands-translate k empty = sym encodeBlock-empty
 commands-translate k (assign x e r) = rw (commands-translate k r, leaf-expr e, encodeBlock-assign x e r) (simp append-assoc)
 commands-translate k (loop x b c r) =
@@ -84,17 +85,9 @@ length-commands t ts = ap length (commands-step t ts) ∙ length-append (ownComm
 
 -- HOW LONG THEY ARE
 
-pub length-leaf : (kind v : ℕ) → length (leafBytes kind v) ≡ 8
-unfolding leafBytes
-length-leaf kind v = simp (length-append, length-recordHead, length-le)
-
-pub length-assign : (x kind v : ℕ) → length (assignBytes x kind v) ≡ 16
-unfolding assignBytes
-length-assign x kind v = simp (length-append, length-recordHead, length-le, length-leaf)
-
 pub length-loop : (x kind v n : ℕ) → length (loopBytes x kind v n) ≡ 20
 unfolding loopBytes
-length-loop x kind v n = simp (length-append, length-recordHead, length-le, length-leaf)
+length-loop x kind v n = simp (length-append, length-recordHead, length-lead)
 
 nest-short : (t : Term) (n : ℕ) → length (nestBytes t n) ≤ 4
 unfolding nestBytes
@@ -107,7 +100,7 @@ nest-short (rec x a ys t) n = omega arith
 pub command-short : (t : Term) → length (ownCommand t) ≤ ownSize t
 unfolding ownCommand ownSize
 command-short (tuple ys) = omega arith
-command-short (letOne x s t) = omega (arith, length-assign x (simpleKind s - 16) (atomNumber (atomOfSimple s)), simple-least s)
+command-short (letOne x s t) = omega (arith, length-lead 2 16 x (simpleKind s - 16) (atomNumber (atomOfSimple s)), simple-least s)
 command-short (letAll s t) = nest-short s (length (commandsOf s))
 command-short (rec x a ys t) = omega (arith, length-loop x (atomKind a - 16) (atomNumber a) (length (commandsOf t)))
 
@@ -122,7 +115,7 @@ module _ {l : List ℕ} {p k : ℕ} {t : Term} (h : TermAt l p k t) where
   unfolding ownCommand
   length-letOne e =
       let v = as-letOne h e in
-      ap (λ (u : Term). length (ownCommand u)) (v .is) ∙ length-assign (v .variable) (simpleKind (v .bound) - 16) (atomNumber (atomOfSimple (v .bound)))
+      ap (λ (u : Term). length (ownCommand u)) (v .is) ∙ length-lead 2 16 (v .variable) (simpleKind (v .bound) - 16) (atomNumber (atomOfSimple (v .bound)))
 
   -- the first term's kind is read inside the buffer
   pub first-room : val (part l (p + 2) 2) ≡ 38 → p + 8 ≤ length l

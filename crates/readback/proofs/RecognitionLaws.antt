@@ -3,7 +3,7 @@ use Prim.Native.Nat.{_+_, _<_, _≤_, ℕ}
 use mathlib.Core.Path.{ap, refl, sym, _∙_, _≡_}
 use mathlib.Core.Bool.{_&&_, Bool, cond, false, not, true}
 use mathlib.Core.List.{_++_, List, [], _∷_}
-use mathlib.Core.Option.{Option, none, some}
+use mathlib.Core.Option.{none, some}
 use borrow.Author.Tests.{eqb-false, eqb-true}
 use lib.Dec.{eqb}
 use lib.ListN.{length}
@@ -15,9 +15,9 @@ use Rattle.record.specs.Rows.{isNone}
 use Rattle.record.specs.Term.{atomKind}
 use Rattle.record.specs.Holding.{TermIn}
 use Rattle.rules.specs.FreeVariables.{allVars}
-use Rattle.rules.specs.ReadBack.{Source, aBlock, aLoop, blockOfSource, boundOf, exprOf, nothing, readBack, sameAtom, sameAtoms, source, sourceLetAll, sourceLetOne, sourceRec}
+use Rattle.rules.specs.ReadBack.{Source, aBlock, aLoop, blockOfSource, boundOf, exprOf, nothing, readBack, sameAtoms, source, sourceLetAll, sourceLetOne, sourceRec}
 use Rattle.rules.specs.Syntax.{Atom, Block, Bound, Expr, Simple, Term, dec, empty, inc, letAll, letOne, lit, num, plain, predOf, rec, ref, succOf, tuple, var}
-use Rattle.rules.specs.Translation.{all, refs}
+use Rattle.rules.specs.Translation.{all}
 use Rattle.place.proofs.HeldTermLaws.{held-end, held-term}
 use Rattle.place.proofs.TermBytesLaws.{atomKind-range, kind-num, kind-ref}
 use Rattle.place.proofs.TermViewLaws.{as-letAll, as-letAtom, as-letPred, as-letSucc, as-rec, as-tuple, simple-kind, term-view}

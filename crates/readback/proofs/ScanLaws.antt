@@ -1,6 +1,6 @@
 -- Laws of a scan: what it stands at after a term's own bytes, and how many these are by the kind read.
 use Prim.Native.Nat.{_*_, _+_, _<_, _≤_, ℕ}
-use mathlib.Core.Path.{ap, refl, subst, sym, _∙_, _≡_}
+use mathlib.Core.Path.{ap, refl, subst, _∙_, _≡_}
 use mathlib.Core.Bool.{Bool, false, true}
 use mathlib.Core.List.{_++_, List, [], _∷_}
 use borrow.Author.Tests.{ltb-false, ltb-true}
@@ -11,9 +11,9 @@ use Rattle.buffer.specs.LittleEndian.{val}
 use Rattle.buffer.specs.Slice.{part}
 use Rattle.place.specs.TermView.{TermAt, TermView, isLetAllAt, isLetOneAt, isRecAt, isTupleAt, simpleKind}
 use Rattle.record.specs.Term.{simpleSize, termSize}
-use Rattle.rules.specs.Syntax.{Atom, Simple, Term, letAll, letOne, rec, tuple}
-use Rattle.place.proofs.TermBytesLaws.{simple-high, simple-low, termSize-letAll, termSize-letOne, termSize-rec, termSize-tuple}
-use Rattle.place.proofs.TermViewLaws.{as-letAll, as-letAtom, as-letOne, as-rec, as-tuple, term-index, term-kind, term-room, term-view}
+use Rattle.rules.specs.Syntax.{Simple, Term, letAll, letOne, rec, tuple}
+use Rattle.place.proofs.TermBytesLaws.{simple-high, simple-low}
+use Rattle.place.proofs.TermViewLaws.{as-letAll, as-letOne, as-rec, as-tuple, term-index, term-kind, term-room, term-view}
 use Rattle.readback.specs.Scan.{TermsAt, ended, followed, inner, ownSize}
 
 -- THE ROW OF TERMS THAT ARE LEFT

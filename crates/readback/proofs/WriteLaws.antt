@@ -7,6 +7,7 @@ use lib.ListN.{length, length-append}
 use native.Mathlib.Omega.{arith}
 use Rattle.buffer.specs.LittleEndian.{le, val}
 use Rattle.buffer.specs.Slice.{part, put, zeros}
+use Rattle.place.specs.Edit.{lead}
 use Rattle.place.specs.Heads.{recordHead}
 use Rattle.place.specs.TermView.{TermAt, simpleKind}
 use Rattle.record.specs.Answers.{padded}
@@ -25,7 +26,7 @@ use Rattle.place.proofs.TermBytesLaws.{atomKind-range}
 use Rattle.place.proofs.TermViewLaws.{as-letAll, as-letOne, as-rec, atom-view, simple-kind, term-index, term-room}
 use Rattle.record.proofs.HeaderLaws.{length-encodeProgram}
 use Rattle.record.proofs.PaddedLaws.{written-padded}
-use Rattle.readback.specs.CommandBytes.{assignBytes, commandsOf, commandsOfAll, loopBytes, ownCommand}
+use Rattle.readback.specs.CommandBytes.{commandsOf, commandsOfAll, loopBytes, ownCommand}
 use Rattle.readback.specs.Scan.{TermsAt, inner, ownSize}
 use Rattle.readback.proofs.CommandLaws.{command-nest, commands-end, commands-one, commands-readBack, commands-step, length-commands}
 use Rattle.readback.proofs.ScanLaws.{own-letOne, simple-least, own-rec, terms-end, terms-first, terms-one}
@@ -41,7 +42,7 @@ module _ {l : List ℕ} {p k : ℕ} {t : Term} (h : TermAt l p k t) where
         (omega (arith, term-room (v .last-at)), omega (arith, simple-least (v .bound)), simple-kind h e .0)
 
     pub letOne-bytes : (x kind v q : ℕ) → x ≡ val (part l (p + 4) 4) → kind ≡ val (part l (p + 10) 2) - 16 → q + 4 ≡ p + ownSize t → v ≡ val (part l q 4)
-        → assignBytes x kind v ≡ ownCommand t
+        → lead 2 16 x kind v ≡ ownCommand t
     unfolding ownCommand
     letOne-bytes x kind v q ex ek eq ev =
         let w = as-letOne h e in

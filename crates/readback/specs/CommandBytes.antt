@@ -3,28 +3,20 @@
 use Prim.Native.Nat.{_+_, _-_, ℕ}
 use mathlib.Core.List.{_++_, List, [], _∷_}
 use lib.ListN.{length}
-use Rattle.buffer.specs.LittleEndian.{le}
+use Rattle.place.specs.Edit.{lead}
 use Rattle.place.specs.Heads.{recordHead}
 use Rattle.place.specs.TermView.{simpleKind}
 use Rattle.record.specs.Term.{atomKind, atomNumber}
 use Rattle.rules.specs.FreeVariables.{atomOfSimple}
 use Rattle.rules.specs.Syntax.{Atom, Simple, Term, letAll, letOne, rec, tuple}
 
--- An expression or a bound: a record of one number.
-unfoldable pub leafBytes : ℕ → ℕ → List ℕ
-leafBytes kind v = recordHead kind 8 ++ le 4 v
-
--- An assignment, by its variable and its expression's kind and number.
-unfoldable pub assignBytes : ℕ → ℕ → ℕ → List ℕ
-assignBytes x kind v = recordHead 2 16 ++ (le 4 x ++ leafBytes kind v)
-
 -- A loop up to its commands, of which there are n bytes, by its variable and its bound's kind and number.
 unfoldable pub loopBytes : ℕ → ℕ → ℕ → ℕ → List ℕ
-loopBytes x kind v n = recordHead 3 (20 + n) ++ (le 4 x ++ (leafBytes kind v ++ recordHead 1 (4 + n)))
+loopBytes x kind v n = lead 3 (20 + n) x kind v ++ recordHead 1 (4 + n)
 
 -- The assignment that a let-one is of: the kinds of LOOP are 16 below those of T0.
 abbrev pub letOneBytes : ℕ → Simple → List ℕ
-letOneBytes x s = assignBytes x (simpleKind s - 16) (atomNumber (atomOfSimple s))
+letOneBytes x s = lead 2 16 x (simpleKind s - 16) (atomNumber (atomOfSimple s))
 
 -- The head of the block that a let-all's first term is of, with n bytes inside; a rec is of no block.
 unfoldable pub nestBytes : Term → ℕ → List ℕ

@@ -8,7 +8,6 @@ ghost use Prim.Native.Nat.{ℕ, _+_, _<_, _≤_};
 ghost use lib.ListN.{length};
 ghost use Rattle.buffer.specs.LittleEndian.{val};
 ghost use Rattle.buffer.specs.Slice.{part, put};
-ghost use Rattle.place.specs.Heads.{recordHead};
 ghost use Rattle.place.specs.TermView.{AtomsAt, TermAt};
 ghost use Rattle.record.specs.Answers.{padded};
 ghost use Rattle.record.specs.Header.{encodeProgram};
@@ -18,12 +17,12 @@ ghost use Rattle.rules.specs.FreeVariables.{allVars};
 ghost use Rattle.rules.specs.ReadBack.{readBack, sameAtoms};
 ghost use Rattle.rules.specs.Syntax.{Atom, Block, Term};
 ghost use Rattle.rules.specs.Translation.{all};
-ghost use Rattle.readback.specs.CommandBytes.{assignBytes, commandsOfAll, leafBytes, loopBytes, ownCommand};
+ghost use Rattle.readback.specs.CommandBytes.{commandsOfAll, loopBytes, ownCommand};
 ghost use Rattle.readback.specs.Recognition.{legal};
 ghost use Rattle.readback.specs.Scan.{TermsAt, ownSize};
-
-// Where the contents of a program's and a term's record start.
-const CONTENTS: usize = 8;
+use edit::put_head;
+use edit::put_lead;
+use record::HEADER_LENGTH;
 
 // From a term to the next one met.
 fn own_size(src: &[u8], at: usize, k: u32) -> usize
@@ -94,7 +93,7 @@ pub fn is_translation(src: &[u8], used: usize, k: u32) -> bool
     ensures { λ r. ⌜ ((t : Term) → TermIn allVars k t (now (src .entry)) used → r ≡ not (isNone (readBack k t))) ⌝ }
 {
     let mut first = false;
-    let mut at = CONTENTS;
+    let mut at = HEADER_LENGTH;
     while at < used {
         if !is_legal(src, at, k, first) {
             return false;
@@ -146,41 +145,14 @@ pub fn source_size(src: &[u8], used: usize, k: u32) -> usize
     requires { ⌜ ((t : Term) × TermIn allVars k t (now src) used) × (length (now src) ≤ 16384) ⌝ }
     ensures { λ r. ⌜ ((t : Term) (P : Block) → TermIn allVars k t (now (src .entry)) used → readBack k t ≡ some P → r ≡ length (encodeProgram k P)) ⌝ }
 {
-    CONTENTS + 4 + commands_size(src, CONTENTS, used, k)
-}
-
-fn put_head(out: &mut [u8], at: usize, kind: usize, n: usize)
-    requires { ⌜ at + 4 ≤ length (now out) ⌝ }
-    ensures { λ _. ⌜ now (out .exit) ≡ put (now (out .entry)) at (recordHead kind n) ⌝ }
-{
-    buffer::put_u16(out, at, n);
-    buffer::put_u16(out, at + 2, kind);
-}
-
-fn put_leaf(out: &mut [u8], at: usize, kind: usize, v: u32)
-    requires { ⌜ at + 8 ≤ length (now out) ⌝ }
-    ensures { λ _. ⌜ now (out .exit) ≡ put (now (out .entry)) at (leafBytes kind v) ⌝ }
-{
-    put_head(out, at, kind, 8);
-    buffer::put_u32(out, at + 4, v);
-}
-
-fn put_assign(out: &mut [u8], at: usize, x: u32, kind: usize, v: u32)
-    requires { ⌜ at + 16 ≤ length (now out) ⌝ }
-    ensures { λ _. ⌜ now (out .exit) ≡ put (now (out .entry)) at (assignBytes x kind v) ⌝ }
-{
-    put_head(out, at, 2, 16);
-    buffer::put_u32(out, at + 4, x);
-    put_leaf(out, at + 8, kind, v);
+    HEADER_LENGTH + 4 + commands_size(src, HEADER_LENGTH, used, k)
 }
 
 fn put_loop(out: &mut [u8], at: usize, x: u32, kind: usize, v: u32, n: usize)
     requires { ⌜ (at + 20 ≤ length (now out)) × (n < 65536) ⌝ }
     ensures { λ _. ⌜ now (out .exit) ≡ put (now (out .entry)) at (loopBytes x kind v n) ⌝ }
 {
-    put_head(out, at, 3, 20 + n);
-    buffer::put_u32(out, at + 4, x);
-    put_leaf(out, at + 8, kind, v);
+    put_lead(out, at, 3, 20 + n, x, kind, v);
     put_head(out, at + 16, 1, 4 + n);
 }
 
@@ -192,7 +164,7 @@ fn write_let_one(src: &[u8], at: usize, k: u32, out: &mut [u8], o: usize)
     let kind = buffer::get_u16(src, at + 10) - 16;
     // A let-one's own bytes end with the number of its atom.
     let v = buffer::get_u32(src, at + own_size(src, at, k) - 4);
-    put_assign(out, o, x, kind, v);
+    put_lead(out, o, 2, 16, x, kind, v);
 }
 
 fn write_let_all(src: &[u8], at: usize, k: u32, out: &mut [u8], o: usize)
@@ -262,8 +234,8 @@ pub fn write_source(src: &[u8], used: usize, k: u32, out: &mut [u8])
     let n = source_size(src, used, k);
     put_head(out, 0, 7, n);
     buffer::put_u32(out, 4, k);
-    put_head(out, CONTENTS, 1, n - CONTENTS);
-    write_commands(src, CONTENTS, used, k, out, CONTENTS + 4);
+    put_head(out, HEADER_LENGTH, 1, n - HEADER_LENGTH);
+    write_commands(src, HEADER_LENGTH, used, k, out, HEADER_LENGTH + 4);
     let room = out.len();
     buffer::zero(out, n, room - n);
 }

@@ -14,6 +14,9 @@ ghost use Rattle.stepping.specs.Plan.{planAssign, planLoop, planOf};
 use crate::Plan;
 use crate::Rule;
 
+// Where the commands of a program's block start: behind the header and the head of that block.
+const COMMANDS: usize = record::HEADER_LENGTH + 4;
+
 // Whether a block with commands in it begins at p.
 fn opens(buf: &[u8], p: usize) -> bool
     requires { ⌜ p + 4 ≤ length (now buf) ⌝ }
@@ -26,13 +29,13 @@ fn opens(buf: &[u8], p: usize) -> bool
     }
 }
 
-// How many blocks are open around the command that the rules act on. The commands start at index 12.
+// How many blocks are open around the command that the rules act on.
 fn open_levels(buf: &[u8]) -> usize
     requires { ⌜ ((P : Block) × (BlockAt (now buf) 12 P × (0 < blockSize P))) ⌝ }
     ensures { λ r. ⌜ ((P : Block) → BlockAt (now (buf .entry)) 12 P → 0 < blockSize P → r ≡ length (path P)) ⌝ }
 {
     let mut levels = 0;
-    while opens(buf, 12 + 4 * levels) {
+    while opens(buf, COMMANDS + 4 * levels) {
         levels += 1;
     }
     levels
@@ -152,11 +155,11 @@ pub fn look(buf: &[u8], used: usize, store: &[u32]) -> Plan
     requires { ⌜ ((k : ℕ) × ((P : Block) × (ProgramIn k P (now buf) used × ((length (now buf) ≤ 16384) × (length (now store) ≡ k))))) ⌝ }
     ensures { λ p. ⌜ ((k : ℕ) (P : Block) → ProgramIn k P (now (buf .entry)) used → length (now (store .entry)) ≡ k → p ≡ planOf P (now (store .entry))) ⌝ }
 {
-    if used == 12 {
+    if used == COMMANDS {
         return Plan {
             rule: Rule::Finished,
             levels: 0,
-            at: 12,
+            at: COMMANDS,
             variable: 0,
             value: 0,
             up: 0,
@@ -164,7 +167,7 @@ pub fn look(buf: &[u8], used: usize, store: &[u32]) -> Plan
         };
     }
     let levels = open_levels(buf);
-    let at = 12 + 4 * levels;
+    let at = COMMANDS + 4 * levels;
     let kind = buffer::get_u16(buf, at + 2);
     if kind == 2 {
         return look_assign(buf, at, levels, store);

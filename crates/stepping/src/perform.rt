@@ -1,91 +1,23 @@
 // The plan of the next step made in place. Only the bytes of the command and those behind it move; the lengths around it are
 // brought up to date by one loop.
 ghost use mathlib.Core.Path.{_≡_};
-ghost use Prim.Native.Nat.{ℕ, _+_, _*_, _-_, _<_, _≤_};
+ghost use Prim.Native.Nat.{ℕ, _+_, _<_, _≤_};
 ghost use lib.ListN.{length};
-ghost use Rattle.buffer.specs.LittleEndian.{le, val};
-ghost use Rattle.buffer.specs.Slice.{part, put};
 ghost use Rattle.rules.specs.Rules.{at};
 ghost use Rattle.rules.specs.Scope.{Within};
 ghost use Rattle.rules.specs.Store.{update};
 ghost use Rattle.rules.specs.Syntax.{Block};
-ghost use Rattle.record.specs.Header.{contentsAt};
-ghost use Rattle.place.specs.Edit.{lead, leafBytes, removed};
-ghost use Rattle.place.specs.Heads.{recordHead, shifted};
-ghost use Rattle.place.specs.Whole.{relengthAll};
 ghost use Rattle.stepping.specs.Perform.{EditFits, Performed, Ready, ValueFits, edited, stoppedAt, unrolledAt, valued};
 ghost use Rattle.stepping.specs.Plan.{planOf};
 ghost use Rattle.stepping.specs.State.{Stands};
 use crate::Plan;
 use crate::Rule;
-use buffer::get_u16;
-use buffer::move_down;
 use buffer::move_up;
-use buffer::put_u16;
-use buffer::put_u32;
-use buffer::zero;
-
-// Where the contents of a record start, behind its header.
-const CONTENTS_AT: usize = 8;
-
-fn put_head(buf: &mut [u8], at: usize, kind: usize, n: usize)
-    requires { ⌜ at + 4 ≤ length (now buf) ⌝ }
-    ensures { λ _. ⌜ now (buf .exit) ≡ put (now (buf .entry)) at (recordHead kind n) ⌝ }
-{
-    put_u16(buf, at, n);
-    put_u16(buf, at + 2, kind);
-}
-
-fn put_literal(buf: &mut [u8], at: usize, v: u32)
-    requires { ⌜ at + 8 ≤ length (now buf) ⌝ }
-    ensures { λ _. ⌜ now (buf .exit) ≡ put (now (buf .entry)) at (leafBytes 16 v) ⌝ }
-{
-    put_head(buf, at, 16, 8);
-    put_u32(buf, at + 4, v);
-}
-
-fn put_assignment(buf: &mut [u8], at: usize, x: u32, v: u32)
-    requires { ⌜ at + 16 ≤ length (now buf) ⌝ }
-    ensures { λ _. ⌜ now (buf .exit) ≡ put (now (buf .entry)) at (lead 2 16 x 16 v) ⌝ }
-{
-    put_head(buf, at, 2, 16);
-    put_u32(buf, at + 4, x);
-    put_literal(buf, at + 8, v);
-}
-
-// The n bytes at an index go, n above 0: what is behind them moves down, and zeros come in at the end.
-fn remove(buf: &mut [u8], at: usize, n: usize, used: usize)
-    requires { ⌜ (at + n ≤ used) × (used ≤ length (now buf)) ⌝ }
-    ensures { λ _. ⌜ now (buf .exit) ≡ removed (now (buf .entry)) at n used ⌝ }
-{
-    move_down(buf, at + n, at, used - (at + n));
-    zero(buf, used - n, n);
-}
-
-fn adjust(buf: &mut [u8], at: usize, up: usize, down: usize)
-    requires { ⌜ (at + 2 ≤ length (now buf)) × (up ≤ 16384) ⌝ }
-    ensures { λ _. ⌜ now (buf .exit) ≡ put (now (buf .entry)) at (le 2 (shifted up down (val (part (now (buf .entry)) at 2)))) ⌝ }
-{
-    let n = get_u16(buf, at) + up;
-    if down <= n {
-        put_u16(buf, at, n - down);
-    } else {
-        put_u16(buf, at, 0);
-    }
-}
-
-// The header's length, and those of so many levels of the contents.
-fn relength(buf: &mut [u8], count: usize, up: usize, down: usize)
-    requires { ⌜ (contentsAt + 4 * count ≤ length (now buf)) × (up ≤ 16384) ⌝ }
-    ensures { λ _. ⌜ now (buf .exit) ≡ relengthAll (shifted up down) count (now (buf .entry)) ⌝ }
-{
-    adjust(buf, 0, up, down);
-    let mut i = 0;
-    while i < count {
-        adjust(buf, CONTENTS_AT + 4 * i, up, down);
-        i += 1;
-    }
-}
+use edit::put_head;
+use edit::put_lead;
+use edit::put_leaf;
+use edit::relength;
+use edit::remove;
 
 // The store's first value is variable 1's.
 fn set_value(store: &mut [u32], variable: u32, value: u32)
@@ -115,8 +47,8 @@ fn unroll(buf: &mut [u8], at: usize, n: usize, used: usize, x: u32, v: u32)
     move_up(buf, at + 20, at + n + 20, used - (at + 20));
     move_up(buf, at, at + 4, n);
     put_head(buf, at, 1, n + n);
-    put_literal(buf, at + 12, q);
-    put_assignment(buf, at + 4 + n, x, v);
+    put_leaf(buf, at + 12, 16, q);
+    put_lead(buf, at + 4 + n, 2, 16, x, 16, v);
 }
 
 // The command of a plan changed, and what is behind it moved.
@@ -129,7 +61,7 @@ fn edit(buf: &mut [u8], used: usize, p: Plan)
         Rule::Finished => {}
         Rule::Over => {}
         Rule::Store => remove(buf, p.at, 16, used),
-        Rule::Literal => put_literal(buf, p.at + 8, p.value),
+        Rule::Literal => put_leaf(buf, p.at + 8, 16, p.value),
         Rule::Remove => remove(buf, p.at, 4, used),
         Rule::Stop => stop(buf, p.at, p.down, used),
         Rule::Unroll => unroll(buf, p.at, p.up, used, p.variable, p.value),

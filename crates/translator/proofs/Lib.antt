@@ -1,5 +1,4 @@
 pub mod RowTranslationLaws
-pub mod StoresLaws
 pub mod TranslationHeadsLaws
 pub mod TupleLaws
 pub mod RowViewLaws

@@ -1,8 +1,8 @@
 -- A program's commands as a row, and its translation's record as what is stored.
 use Prim.Native.Nat.{_+_, _-_, _≤_, ℕ}
-use mathlib.Core.Path.{ap, refl, sym, _∙_, _≡_}
-use mathlib.Core.List.{_++_, List, append-assoc}
-use lib.ListN.{length, length-append}
+use mathlib.Core.Path.{ap, sym, _∙_, _≡_}
+use mathlib.Core.List.{_++_, List}
+use lib.ListN.{length}
 use native.Mathlib.Omega.{arith}
 use Rattle.buffer.specs.LittleEndian.{le}
 use Rattle.buffer.specs.Slice.{put, zeros}
@@ -20,7 +20,7 @@ use Rattle.place.proofs.RecordPlaceLaws.{encodeTerm-head, program-end, program-
 use Rattle.translator.specs.RowTranslation.{RowAt, rowBytes, rowSize}
 use Rattle.translator.specs.TranslationTasks.{TaskIn}
 use Rattle.translator.proofs.RowTranslationLaws.{rowSize-most}
-use Rattle.translator.proofs.StoresLaws.{stores3}
+use Rattle.buffer.proofs.StoresLaws.{stores-3}
 
 pub term-length : (k : ℕ) (P : Block) → length (encodeTerm k (translate k P)) ≡ 8 + rowSize k P
 unfolding rowSize
@@ -48,6 +48,6 @@ term-stores k P out out₁ out₂ out₃ out₄ total room e r h e₁ e₂ e₃ 
     let m : 8 ≤ total = omega (arith, term-length k P) in
     let whole : recordHead 40 total ++ (le 4 k ++ rowBytes k P) ≡ t = rw (e, length-encodeTerm k (translate k P)) (sym (encodeTerm-head k (translate k P))) in
     let s : out₃ ≡ put out 0 t =
-    stores3 out out₁ out₂ out₃ (recordHead 40 total) (le 4 k) (rowBytes k P) 0 4 8 e₁ e₂ e₃ (omega (arith, length-recordHead 40 total)) (omega (arith, length-le 4 k)) (omega arith)
+    stores-3 out out₁ out₂ out₃ (recordHead 40 total) (le 4 k) (rowBytes k P) 0 4 8 e₁ e₂ e₃ (omega (arith, length-recordHead 40 total)) (omega (arith, length-le 4 k)) (omega arith)
     ∙ ap (put out 0) whole in
     rw (e₄, s, r) (put-padded out t total (sym e) (omega arith))

@@ -1,9 +1,9 @@
 -- The turns of the scan that measures a translation.
 use Prim.Native.Nat.{_*_, _+_, _<_, _≤_, ℕ}
-use mathlib.Core.Path.{ap, _∙_, _≡_}
+use mathlib.Core.Path.{ap, _≡_}
 use mathlib.Core.List.{List}
 use native.Mathlib.Omega.{arith}
-use Rattle.rules.specs.Syntax.{Block, empty}
+use Rattle.rules.specs.Syntax.{Block}
 use Rattle.record.specs.Program.{blockSize}
 use Rattle.translator.specs.RowScan.{Scanned}
 use Rattle.translator.specs.RowTranslation.{RowAt, rowSize}

@@ -1,11 +1,11 @@
 -- The translation of a row by its first command: bytes and sizes.
 use Prim.Native.Nat.{_*_, _+_, _≤_, ℕ}
-use mathlib.Core.Path.{ap, refl, sym, _∙_, _≡_}
+use mathlib.Core.Path.{ap, refl, _∙_, _≡_}
 use mathlib.Core.List.{_++_, List, append-assoc}
 use lib.ListN.{length}
 use native.Mathlib.Omega.{arith}
 use Rattle.buffer.specs.LittleEndian.{le}
-use Rattle.rules.specs.Syntax.{Block, Bound, Expr, Term, assign, empty, letAll, loop, nest, rec, tuple}
+use Rattle.rules.specs.Syntax.{Block, Bound, Expr, Term, assign, empty, loop, nest, rec, tuple}
 use Rattle.rules.specs.Translation.{all, atomOf, simpleOf, translate}
 use Rattle.record.specs.Program.{blockSize}
 use Rattle.record.specs.Term.{encodeAtom, encodeSimple, encodeTermRecord, simpleSize, termSize}
@@ -20,10 +20,6 @@ use Rattle.translator.specs.RowTranslation.{allBytes, rowBytes, rowSize}
 pub length-rowBytes : (k : ℕ) (b : Block) → length (rowBytes k b) ≡ rowSize k b
 unfolding rowBytes rowSize
 length-rowBytes k b = length-encodeTermRecord (translate k b)
-
-pub length-allBytes : (k : ℕ) → length (allBytes k) ≡ 4 + 8 * k
-unfolding allBytes
-length-allBytes k = length-encodeTermRecord (tuple (all k)) ∙ omega (arith, termSize-tuple (all k), length-refs 1 k)
 
 -- SIZES
 

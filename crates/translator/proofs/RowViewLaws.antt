@@ -5,21 +5,21 @@ use mathlib.Core.Bool.{Bool, false, true}
 use mathlib.Core.List.{_++_, List, append-assoc}
 use borrow.Author.Tests.{eq-eqb, eqb-false, eqb-true, ltb-false, ltb-true, ne-eqb}
 use lib.Dec.{eqb, ltb}
-use lib.ListN.{length, length-append}
+use lib.ListN.{length}
 use native.Mathlib.Omega.{arith}
-use Rattle.buffer.specs.LittleEndian.{le, val}
-use Rattle.buffer.specs.Slice.{part}
+use Rattle.buffer.specs.LittleEndian.{le}
 use Rattle.rules.specs.Syntax.{Block, Bound, Expr, assign, empty, loop, nest}
-use Rattle.rules.specs.Translation.{atomOf, simpleOf}
+use Rattle.rules.specs.Translation.{simpleOf}
 use Rattle.record.specs.Program.{blockSize, boundKind, boundNumber, exprKind, exprNumber}
-use Rattle.record.specs.Term.{encodeSimple, simpleSize}
+use Rattle.record.specs.Term.{encodeSimple}
+use Rattle.place.specs.Edit.{lead, leafBytes}
 use Rattle.place.specs.Heads.{recordHead}
 use Rattle.place.specs.ProgramView.{BlockAt, append}
 use Rattle.place.proofs.ProgramBytesLaws.{blockSize-append, blockSize-some}
 use Rattle.place.proofs.ProgramViewLaws.{as-assign, as-loop, as-nest, block-room, command-kind, row-empty}
 use Rattle.place.proofs.TranslatedLaws.{atomOf-bytes, simpleOf-high, simpleOf-low, simpleSize-high, simpleSize-low}
-use Rattle.translator.specs.RowTranslation.{RowAt, allBytes, rowBytes, rowSize}
-use Rattle.translator.specs.TranslationHeads.{bindingBytes, letAllHead, letAllSize, letOneHead, letOneSize, opening, u16At, u32At}
+use Rattle.translator.specs.RowTranslation.{RowAt, rowBytes, rowSize}
+use Rattle.translator.specs.TranslationHeads.{leadOf, letAllHead, letAllSize, letOneHead, letOneSize, opening, u16At, u32At}
 use Rattle.translator.proofs.RowTranslationLaws.{rowBytes-assign, rowBytes-loop, rowBytes-nest, rowSize-append, rowSize-assign, rowSize-loop, rowSize-nest}
 use Rattle.translator.proofs.TranslationHeadsLaws.{letAllHead-loop, letAllHead-nest, letOneHead-high, letOneHead-low, letOneSize-high, letOneSize-low}
 
@@ -39,7 +39,7 @@ module _ (k : ℕ) (l : List ℕ) (p x : ℕ) (e : Expr) (r : Block) (kind : u16
 
   module _ (variable : u32At l (p + 4) ≡ x) (number : u32At l (p + 12) ≡ exprNumber e) where
     assign-bytes : rowBytes k (assign x e r) ≡ letOneHead l p (rowSize k (assign x e r)) ++ rowBytes k r
-    unfolding bindingBytes
+    unfolding leadOf lead leafBytes
     assign-bytes = rowBytes-assign k x e r ∙ go (ltb (exprKind e) 18) refl
       where
         n : ℕ
@@ -63,7 +63,7 @@ nest-bytes k l p b r kind =
 loop-bytes : (k : ℕ) (l : List ℕ) (p x : ℕ) (n : Bound) (b r : Block) → u16At l (p + 2) ≡ 3
     → u32At l (p + 4) ≡ x → u16At l (p + 10) ≡ boundKind n → u32At l (p + 12) ≡ boundNumber n
     → rowBytes k (loop x n b r) ≡ letAllHead k l p (rowSize k (loop x n b r)) (rowSize k b) ++ (rowBytes k b ++ rowBytes k r)
-unfolding bindingBytes
+unfolding leadOf lead leafBytes
 loop-bytes k l p x n b r kind variable bound number =
     rw (letAllHead-loop l k p (rowSize k (loop x n b r)) (rowSize k b) 3 (sym kind) refl, variable, bound, number)
     (rowBytes-loop k x n b r ∙ rw (atomOf-bytes n) (simp append-assoc))

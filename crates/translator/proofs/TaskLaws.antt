@@ -9,15 +9,15 @@ use lib.ListN.{length, length-append}
 use native.Mathlib.Omega.{arith}
 use Rattle.buffer.specs.Slice.{put}
 use Rattle.buffer.proofs.SliceLaws.{put-put, put-put-front}
-use Rattle.rules.specs.Syntax.{Block, empty}
+use Rattle.rules.specs.Syntax.{Block}
 use Rattle.record.specs.Program.{blockSize}
 use Rattle.place.proofs.ProgramViewLaws.{block-index}
 use Rattle.translator.specs.RowTranslation.{RowAt, allBytes, rowBytes, rowSize}
 use Rattle.translator.specs.TranslationHeads.{letAllHead, letAllSize, letOneHead, letOneSize, opening, u16At}
-use Rattle.translator.specs.TranslationTasks.{Left, Opens, PartsOf, TaskIn, cutAt, pastHeads}
+use Rattle.translator.specs.TranslationTasks.{Left, PartsOf, TaskIn, cutAt, pastHeads}
 use Rattle.translator.specs.declared.translation.Parts.{Parts}
 use Rattle.translator.specs.declared.translation.Task.{Task}
-use Rattle.translator.proofs.RowTranslationLaws.{length-rowBytes, rowBytes-empty, rowSize-empty, rowSize-least}
+use Rattle.translator.proofs.RowTranslationLaws.{length-rowBytes, rowBytes-empty, rowSize-least}
 use Rattle.translator.proofs.RowViewLaws.{Opened, row-assign, row-four, row-none, row-open, row-room}
 
 abbrev pub row-index : {l : List ℕ} {p p₁ q q₁ : ℕ} → RowAt l p q → p ≡ p₁ → q ≡ q₁ → RowAt l p₁ q₁
@@ -46,11 +46,6 @@ letAllSize-loop k kind h = rw (eq-eqb kind 3 h) refl
 pub letAllSize-nest : (k kind : ℕ) → (kind ≡ 3 → ⊥) → letAllSize k (eqb kind 3) ≡ 4
 unfolding letAllSize
 letAllSize-nest k kind h = rw (ne-eqb kind 3 h) refl
-
-pub letAllSize-least : (k : ℕ) (b : Bool) → 4 ≤ letAllSize k b
-unfolding letAllSize
-letAllSize-least k true = omega arith
-letAllSize-least k false = omega arith
 
 module _ (k : ℕ) (src : List ℕ) (t : Task) (kind f s : ℕ) (read : kind ≡ u16At src (t .from + 2)) where
   past-is : f ≡ t .from + opening (eqb kind 3) → s ≡ t .start + letAllSize k (eqb kind 3)

@@ -5,6 +5,7 @@ use mathlib.Core.List.{_++_, List}
 use lib.Dec.{eqb, ltb}
 use Rattle.buffer.specs.LittleEndian.{le, val}
 use Rattle.buffer.specs.Slice.{part}
+use Rattle.place.specs.Edit.{lead, leafBytes}
 use Rattle.place.specs.Heads.{recordHead}
 use Rattle.translator.specs.RowTranslation.{allBytes}
 
@@ -15,23 +16,23 @@ u16At l p = val (part l p 2)
 abbrev pub u32At : List ℕ → ℕ → ℕ
 u32At l p = val (part l p 4)
 
--- The variable and the atom of an assignment or of a loop: the atom's kind is 16 higher in a term.
-unfoldable pub bindingBytes : List ℕ → ℕ → List ℕ
-bindingBytes l p = le 4 (u32At l (p + 4)) ++ (recordHead (u16At l (p + 10) + 16) 8 ++ le 4 (u32At l (p + 12)))
+-- What a let-one of an atom, or a rec, of n bytes begins with, of an assignment or a loop: the atom's kind is 16 higher in a
+-- term.
+unfoldable pub leadOf : ℕ → ℕ → List ℕ → ℕ → List ℕ
+leadOf kind n l p = lead kind n (u32At l (p + 4)) (u16At l (p + 10) + 16) (u32At l (p + 12))
 
 -- An assignment, by whether its expression is a literal or a variable: how many bytes a let-one has before its last term.
 unfoldable pub letOneSize : Bool → ℕ
 letOneSize true = 16
 letOneSize false = 20
 
--- The variable, and what is bound: an atom, or succ or pred of one.
-unfoldable pub boundBytes : Bool → List ℕ → ℕ → List ℕ
-boundBytes true l p = bindingBytes l p
-boundBytes false l p = le 4 (u32At l (p + 4)) ++ (recordHead (u16At l (p + 10) + 16) 12 ++ (recordHead 33 8 ++ le 4 (u32At l (p + 12))))
+-- A let-one of n bytes before its last term, by whether it binds an atom; else it binds succ or pred of one.
+unfoldable pub letOneHeadIf : Bool → List ℕ → ℕ → ℕ → List ℕ
+letOneHeadIf true l p n = leadOf 37 n l p
+letOneHeadIf false l p n = recordHead 37 n ++ (le 4 (u32At l (p + 4)) ++ (recordHead (u16At l (p + 10) + 16) 12 ++ leafBytes 33 (u32At l (p + 12))))
 
--- A let-one of n bytes before its last term.
 unfoldable pub letOneHead : List ℕ → ℕ → ℕ → List ℕ
-letOneHead l p n = recordHead 37 n ++ boundBytes (ltb (u16At l (p + 10)) 18) l p
+letOneHead l p n = letOneHeadIf (ltb (u16At l (p + 10)) 18) l p n
 
 -- A block or a loop, by whether it is a loop: how many bytes it has before its inner row.
 unfoldable pub opening : Bool → ℕ
@@ -45,7 +46,7 @@ letAllSize k false = 4
 
 -- A let-all of n bytes before the translation of the inner row, which has m bytes: of a loop the rec is begun too.
 unfoldable pub letAllHeadIf : Bool → ℕ → List ℕ → ℕ → ℕ → ℕ → List ℕ
-letAllHeadIf true k l p n m = recordHead 38 n ++ (recordHead 39 (20 + 8 * k + m) ++ (bindingBytes l p ++ allBytes k))
+letAllHeadIf true k l p n m = recordHead 38 n ++ (leadOf 39 (20 + 8 * k + m) l p ++ allBytes k)
 letAllHeadIf false k l p n m = recordHead 38 n
 
 unfoldable pub letAllHead : ℕ → List ℕ → ℕ → ℕ → ℕ → List ℕ

@@ -9,13 +9,13 @@ ghost use Rattle.rules.specs.Translation.{translate};
 ghost use Rattle.record.specs.Answers.{padded};
 ghost use Rattle.record.specs.Header.{encodeTerm};
 ghost use Rattle.record.specs.Holding.{ProgramIn};
-ghost use Rattle.place.specs.Heads.{recordHead};
 ghost use Rattle.translator.specs.RowTranslation.{RowAt, allBytes, rowBytes, rowSize};
-ghost use Rattle.translator.specs.TranslationHeads.{bindingBytes, letAllHead, letOneHead, letOneSize, u16At};
+ghost use Rattle.translator.specs.TranslationHeads.{leadOf, letAllHead, letOneHead, letOneSize, u16At};
 ghost use Rattle.translator.specs.TranslationTasks.{Opens, PartsOf, TaskIn, cutAt, pastHeads};
-
-// Where the contents of a program's or a term's record start: behind its length, kind and k.
-const CONTENTS: usize = 8;
+use edit::put_head;
+use edit::put_lead;
+use edit::put_leaf;
+use record::HEADER_LENGTH;
 
 // A row of commands, from `from` up to `to` in the source, and the place of its translation, from `start` up to `stop` in
 // the output.
@@ -79,15 +79,7 @@ pub fn translation_size(src: &[u8], used: usize, k: u32) -> usize
     requires { ⌜ ((P : Block) × ProgramIn k P (now src) used) × (length (now src) ≤ 16384) ⌝ }
     ensures { λ r. ⌜ ((P : Block) → ProgramIn k P (now (src .entry)) used → r ≡ length (encodeTerm k (translate k P))) ⌝ }
 {
-    CONTENTS + row_size(src, CONTENTS + 4, used, k)
-}
-
-fn put_head(buf: &mut [u8], at: usize, kind: usize, n: usize)
-    requires { ⌜ at + 4 ≤ length (now buf) ⌝ }
-    ensures { λ _. ⌜ now (buf .exit) ≡ put (now (buf .entry)) at (recordHead kind n) ⌝ }
-{
-    buffer::put_u16(buf, at, n);
-    buffer::put_u16(buf, at + 2, kind);
+    HEADER_LENGTH + row_size(src, HEADER_LENGTH + 4, used, k)
 }
 
 fn write_tuple(out: &mut [u8], o: usize, k: u32)
@@ -98,21 +90,22 @@ fn write_tuple(out: &mut [u8], o: usize, k: u32)
     let mut p = o + 4;
     let mut x = 1;
     while x <= k {
-        put_head(out, p, 33, 8);
-        buffer::put_u32(out, p + 4, x);
+        put_leaf(out, p, 33, x);
         p += 8;
         x += 1;
     }
 }
 
-// The variable and the atom of an assignment or a loop. Each number is one move; a copy of all 12 bytes would go byte by byte.
-fn write_binding(src: &[u8], at: usize, out: &mut [u8], o: usize)
-    requires { ⌜ (at + 16 ≤ length (now src)) × (o + 12 ≤ length (now out)) ⌝ }
-    ensures { λ _. ⌜ now (out .exit) ≡ put (now (out .entry)) o (bindingBytes (now (src .entry)) at) ⌝ }
+// What a let-one of an atom, or a rec, begins with, of the assignment or the loop at `at`. Each number is one move; a copy of
+// the bytes would go one by one.
+fn write_lead(src: &[u8], at: usize, out: &mut [u8], o: usize, kind: usize, n: usize)
+    requires { ⌜ (at + 16 ≤ length (now src)) × (o + 16 ≤ length (now out)) ⌝ }
+    ensures { λ _. ⌜ now (out .exit) ≡ put (now (out .entry)) o (leadOf kind n (now (src .entry)) at) ⌝ }
 {
-    buffer::put_u32(out, o, buffer::get_u32(src, at + 4));
-    put_head(out, o + 4, buffer::get_u16(src, at + 10) + 16, 8);
-    buffer::put_u32(out, o + 8, buffer::get_u32(src, at + 12));
+    let x = buffer::get_u32(src, at + 4);
+    let leaf = buffer::get_u16(src, at + 10) + 16;
+    let v = buffer::get_u32(src, at + 12);
+    put_lead(out, o, kind, n, x, leaf, v);
 }
 
 // Gives where the let-one's last term goes.
@@ -120,16 +113,15 @@ fn write_let_one(src: &[u8], at: usize, out: &mut [u8], o: usize, n: usize) -> u
     requires { ⌜ (at + 16 ≤ length (now src)) × (o + 20 ≤ length (now out)) ⌝ }
     ensures { λ r. ⌜ (now (out .exit) ≡ put (now (out .entry)) o (letOneHead (now (src .entry)) at n)) × (r ≡ o + letOneSize (ltb (u16At (now (src .entry)) (at + 10)) 18)) ⌝ }
 {
-    put_head(out, o, 37, n);
     let kind = buffer::get_u16(src, at + 10);
     if kind < 18 {
-        write_binding(src, at, out, o + 4);
+        write_lead(src, at, out, o, 37, n);
         return o + 16;
     }
+    put_head(out, o, 37, n);
     buffer::put_u32(out, o + 4, buffer::get_u32(src, at + 4));
     put_head(out, o + 8, kind + 16, 12);
-    put_head(out, o + 12, 33, 8);
-    buffer::put_u32(out, o + 16, buffer::get_u32(src, at + 12));
+    put_leaf(out, o + 12, 33, buffer::get_u32(src, at + 12));
     o + 20
 }
 
@@ -196,13 +188,8 @@ fn write_let_all(src: &[u8], whole: Task, inner: Task, k: u32, out: &mut [u8])
     let o = whole.start;
     put_head(out, o, 38, whole.stop - o);
     if buffer::get_u16(src, whole.from + 2) == 3 {
-        put_head(
-            out,
-            o + 4,
-            39,
-            16 + tuple_size(k) + (inner.stop - inner.start),
-        );
-        write_binding(src, whole.from, out, o + 8);
+        let n = 16 + tuple_size(k) + (inner.stop - inner.start);
+        write_lead(src, whole.from, out, o + 4, 39, n);
         write_tuple(out, o + 20, k);
     }
 }
@@ -243,9 +230,9 @@ pub fn write_translation(src: &[u8], used: usize, k: u32, out: &mut [u8])
     put_head(out, 0, 40, total);
     buffer::put_u32(out, 4, k);
     let whole = Task {
-        from: CONTENTS + 4,
+        from: HEADER_LENGTH + 4,
         to: used,
-        start: CONTENTS,
+        start: HEADER_LENGTH,
         stop: total,
     };
     write_row(src, whole, k, out);

@@ -1,9 +1,5 @@
 use Rattle.readback.proofs.read_back.commands_size.Statement.{statement}
 use Rattle.readback.proofs.read_back.commands_size.Tie as tie
-use Rattle.readback.proofs.read_back.commands_size.Reads as reads
-use Rattle.readback.proofs.read_back.commands_size.Lts as lts
-use Rattle.readback.proofs.read_back.own_command_size.Reads as own-command-size-reads
-use Rattle.readback.proofs.read_back.own_size.Reads as own-size-reads
 use native.Mathlib.Omega.{arith}
 use mathlib.Core.List.{List}
 use Prim.Native.Nat.{_+_, _-_, _≤_}
@@ -19,42 +15,35 @@ Inv-loop src from to k n₀ at₀ n at =
 abbrev μ-loop : tie.MeasureT-loop
 μ-loop src from to k n₀ at₀ n at = to - at
 
--- src/read_back.rt:133:5
 loop-holds : tie.Need-loop-holds Inv-loop μ-loop
 loop-holds c = ((λ ts h. count-start h), omega arith)
 
--- src/read_back.rt:134:14
 own-command-size-requires : tie.Need-own-command-size-requires Inv-loop μ-loop
 own-command-size-requires c κs =
     let q = c .before .before .before .pre .0 in
     let u = count-here (c .before .loop .inv .0 (q .0) (q .1)) (c .loop-test .taken) in
     (c .before .before .before .args .k, u .0, u .1)
 
--- src/read_back.rt:134:9
 add-n : tie.Need-add-n Inv-loop μ-loop
 add-n c =
     let q = c .before .before .before .before .pre .0 in
     omega (arith, count-room (c .before .before .loop .inv .0 (q .0) (q .1)) (c .before .loop-test .taken) (c .own-command-size .result) (c .own-command-size .ensures (c .before .before .before .before .args .k)), c .before .before .loop .inv .1, c .before .before .before .before .pre .1)
 
--- src/read_back.rt:135:15
 own-size-requires : tie.Need-own-size-requires Inv-loop μ-loop
 own-size-requires c κs =
     let q = c .before .before .before .before .pre .0 in
     count-here (c .before .before .loop .inv .0 (q .0) (q .1)) (c .before .loop-test .taken)
 
--- src/read_back.rt:135:9
 add-at : tie.Need-add-at Inv-loop μ-loop
 add-at c =
     let q = c .before .before .before .before .before .pre .0 in
     omega (arith, terms-pass (c .before .before .before .loop .inv .0 (q .0) (q .1) .row) (c .before .before .loop-test .taken) (c .own-size .result) (c .own-size .ensures), c .before .before .before .before .before .pre .1)
 
--- src/read_back.rt:133:5
 loop-less : tie.Need-loop-less Inv-loop μ-loop
 loop-less c =
     let q = c .before .before .before .before .before .pre .0 in
     omega (arith, terms-pass (c .before .before .before .loop .inv .0 (q .0) (q .1) .row) (c .before .before .loop-test .taken) (c .own-size .result) (c .own-size .ensures), c .before .before .before .before .before .pre .1)
 
--- src/read_back.rt:133:5
 loop-again : tie.Need-loop-again Inv-loop μ-loop
 loop-again c =
     let q = c .before .before .before .before .before .pre .0 in
@@ -63,7 +52,6 @@ loop-again c =
       omega (arith, count-low (c .before .before .before .loop .inv .0 (q .0) (q .1)) (c .before .before .loop-test .taken) (c .before .own-command-size .result) (c .own-size .result) m (c .own-size .ensures), c .before .before .before .loop .inv .1),
     )
 
--- src/read_back.rt:126:1
 returns : tie.Need-returns Inv-loop μ-loop
 returns c =
     let q = c .before .before .before .pre .0 in

@@ -1,9 +1,5 @@
 use Rattle.readback.proofs.read_back.is_all.Statement.{statement}
 use Rattle.readback.proofs.read_back.is_all.Tie as tie
-use Rattle.readback.proofs.read_back.is_all.Reads as reads
-use Rattle.readback.proofs.read_back.is_all.Lts as lts
-use Rattle.buffer.proofs.get_u16.Reads as get-u16-reads
-use Rattle.buffer.proofs.get_u32.Reads as get-u32-reads
 use native.Mathlib.Omega.{arith}
 use mathlib.Core.Path.{sym, _∙_, _≡_}
 use mathlib.Core.List.{List}
@@ -19,66 +15,54 @@ Inv-loop src at k p₀ i₀ p i = (ys : List Atom) → AtomsAt src at ys → len
 abbrev μ-loop : tie.MeasureT-loop
 μ-loop src at k p₀ i₀ p i = k + 1 - i
 
--- src/read_back.rt:40:5
 loop-holds : tie.Need-loop-holds Inv-loop μ-loop
 loop-holds c = λ ys h e. left-start h e
 
--- src/read_back.rt:41:33
 add-get-u16 : tie.Need-add-get-u16 Inv-loop μ-loop
 add-get-u16 c =
     let q = c .before .before .before .pre .0 in
     omega (arith, left-room (c .before .loop .inv (q .0) (q .1) (q .2)) (c .loop-test .taken))
 
--- src/read_back.rt:41:12
 get-u16-requires : tie.Need-get-u16-requires Inv-loop μ-loop
 get-u16-requires c κs =
     let q = c .before .before .before .pre .0 in
     omega (arith, left-room (c .before .loop .inv (q .0) (q .1) (q .2)) (c .loop-test .taken))
 
--- src/read_back.rt:42:13
 returns : tie.Need-returns Inv-loop μ-loop
 returns c =
     λ ys h e. left-kind (c .before .before .before .loop .inv ys h e) (c .before .before .loop-test .taken) (λ f. c .if1 .taken (c .before .get-u16 .ensures .0 ∙ f))
 
--- src/read_back.rt:44:33
 add-get-u32 : tie.Need-add-get-u32 Inv-loop μ-loop
 add-get-u32 c =
     let q = c .before .before .before .before .before .pre .0 in
     omega (arith, left-room (c .before .before .before .loop .inv (q .0) (q .1) (q .2)) (c .before .before .loop-test .taken))
 
--- src/read_back.rt:44:12
 get-u32-requires : tie.Need-get-u32-requires Inv-loop μ-loop
 get-u32-requires c κs =
     let q = c .before .before .before .before .before .pre .0 in
     omega (arith, left-room (c .before .before .before .loop .inv (q .0) (q .1) (q .2)) (c .before .before .loop-test .taken))
 
--- src/read_back.rt:45:13
 returns-2 : tie.Need-returns-2 Inv-loop μ-loop
 returns-2 c =
     λ ys h e. left-number (c .before .before .before .before .before .loop .inv ys h e) (c .before .before .before .before .loop-test .taken) (sym (c .before .before .before .get-u16 .ensures .0) ∙ c .before .before .if1 .left) (λ f. c .if2 .taken (c .before .get-u32 .ensures ∙ f))
 
--- src/read_back.rt:47:9
 add-p : tie.Need-add-p Inv-loop μ-loop
 add-p c =
     let q = c .before .before .before .before .before .before .before .pre .0 in
     omega (arith, left-room (c .before .before .before .before .before .loop .inv (q .0) (q .1) (q .2)) (c .before .before .before .before .loop-test .taken))
 
--- src/read_back.rt:48:9
 add-i : tie.Need-add-i Inv-loop μ-loop
 add-i c =
     omega (arith, c .before .before .before .before .before .before .before .pre .1, c .before .before .before .before .loop-test .taken)
 
--- src/read_back.rt:40:5
 loop-less : tie.Need-loop-less Inv-loop μ-loop
 loop-less c =
     omega (arith, c .before .before .before .before .before .before .before .pre .1, c .before .before .before .before .loop-test .taken)
 
--- src/read_back.rt:40:5
 loop-again : tie.Need-loop-again Inv-loop μ-loop
 loop-again c =
     λ ys h e. left-next (c .before .before .before .before .before .loop .inv ys h e) (c .before .before .before .before .loop-test .taken) (sym (c .before .before .before .get-u16 .ensures .0) ∙ c .before .before .if1 .left) (sym (c .before .get-u32 .ensures) ∙ c .if2 .left)
 
--- src/read_back.rt:34:1
 returns-3 : tie.Need-returns-3 Inv-loop μ-loop
 returns-3 c = λ ys h e. left-end (c .before .loop .inv ys h e) (c .loop-test .left)
 

@@ -1,12 +1,7 @@
 use Rattle.readback.proofs.read_back.is_translation.Statement.{statement}
 use Rattle.readback.proofs.read_back.is_translation.Tie as tie
-use Rattle.readback.proofs.read_back.is_translation.Reads as reads
-use Rattle.readback.proofs.read_back.is_translation.Lts as lts
-use Rattle.buffer.proofs.get_u16.Reads as get-u16-reads
-use Rattle.readback.proofs.read_back.is_legal.Reads as is-legal-reads
-use Rattle.readback.proofs.read_back.own_size.Reads as own-size-reads
 use native.Mathlib.Omega.{arith}
-use mathlib.Core.Path.{ap, sym, _∙_, _≡_}
+use mathlib.Core.Path.{ap, sym, _∙_}
 use borrow.Author.Tests.{not-false, not-true}
 use Prim.Native.Nat.{_-_, ℕ}
 use lib.Dec.{eqb}
@@ -22,52 +17,43 @@ Inv-loop src used k first₀ at₀ first at = (t : Term) → TermIn allVars k t 
 abbrev μ-loop : tie.MeasureT-loop
 μ-loop src used k first₀ at₀ first at = used - at
 
--- src/read_back.rt:91:5
 loop-holds : tie.Need-loop-holds Inv-loop μ-loop
 loop-holds c = λ t h. recognise-start h (c .before .pre .1)
 
--- src/read_back.rt:92:13
 is-legal-requires : tie.Need-is-legal-requires Inv-loop μ-loop
 is-legal-requires c κs =
     let q = c .before .before .before .pre .0 in
     (recognise-here (c .before .loop .inv (q .0) (q .1)) (c .loop-test .taken), q .1 .k-high)
 
--- src/read_back.rt:93:13
 returns : tie.Need-returns Inv-loop μ-loop
 returns c =
     λ t h. recognise-no (c .before .before .before .loop .inv t h) (c .before .before .loop-test .taken) (λ u g. sym (not-true (c .before .is-legal .result) (c .if1 .taken)) ∙ c .before .is-legal .ensures u g)
 
--- src/read_back.rt:95:38
 add-get-u16 : tie.Need-add-get-u16 Inv-loop μ-loop
 add-get-u16 c =
     let q = c .before .before .before .before .before .pre .0 in
     omega (arith, kind-room (recognise-here (c .before .before .before .loop .inv (q .0) (q .1)) (c .before .before .loop-test .taken) .1))
 
--- src/read_back.rt:95:17
 get-u16-requires : tie.Need-get-u16-requires Inv-loop μ-loop
 get-u16-requires c κs =
     let q = c .before .before .before .before .before .pre .0 in
     omega (arith, kind-room (recognise-here (c .before .before .before .loop .inv (q .0) (q .1)) (c .before .before .loop-test .taken) .1))
 
--- src/read_back.rt:96:15
 own-size-requires : tie.Need-own-size-requires Inv-loop μ-loop
 own-size-requires c κs =
     let q = c .before .before .before .before .before .before .pre .0 in
     recognise-here (c .before .before .before .before .loop .inv (q .0) (q .1)) (c .before .before .before .loop-test .taken)
 
--- src/read_back.rt:96:9
 add-at : tie.Need-add-at Inv-loop μ-loop
 add-at c =
     let q = c .before .before .before .before .before .before .before .pre .0 in
     omega (arith, terms-pass (c .before .before .before .before .before .loop .inv (q .0) (q .1) .row) (c .before .before .before .before .loop-test .taken) (c .own-size .result) (c .own-size .ensures), q .1 .within)
 
--- src/read_back.rt:91:5
 loop-less : tie.Need-loop-less Inv-loop μ-loop
 loop-less c =
     let q = c .before .before .before .before .before .before .before .pre .0 in
     omega (arith, terms-pass (c .before .before .before .before .before .loop .inv (q .0) (q .1) .row) (c .before .before .before .before .loop-test .taken) (c .own-size .result) (c .own-size .ensures), q .1 .within)
 
--- src/read_back.rt:91:5
 loop-again : tie.Need-loop-again Inv-loop μ-loop
 loop-again c =
     λ t h.
@@ -76,7 +62,6 @@ loop-again c =
     (λ u g. ap (λ (n : ℕ). eqb n 38) (c .before .get-u16 .ensures .0) ∙ isLetAll-kind g)
     (c .own-size .ensures)
 
--- src/read_back.rt:85:1
 returns-2 : tie.Need-returns-2 Inv-loop μ-loop
 returns-2 c = λ t h. recognise-end (c .before .loop .inv t h) (c .loop-test .left)
 

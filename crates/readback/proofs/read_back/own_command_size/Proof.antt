@@ -1,52 +1,39 @@
 use Rattle.readback.proofs.read_back.own_command_size.Statement.{statement}
 use Rattle.readback.proofs.read_back.own_command_size.Tie as tie
-use Rattle.readback.proofs.read_back.own_command_size.Reads as reads
-use Rattle.readback.proofs.read_back.own_command_size.Lts as lts
-use Rattle.buffer.proofs.get_u16.Reads as get-u16-reads
 use native.Mathlib.Omega.{arith}
 use mathlib.Core.Path.{ap, sym, _∙_}
 use lib.ListN.{length}
-use Rattle.place.proofs.HeadsLaws.{length-recordHead}
 use Rattle.readback.proofs.CommandLaws.{command-loop, command-tuple, first-room, length-letOne, length-nest, length-rec}
 use Rattle.readback.proofs.ScanLaws.{kind-left, kind-room}
 
--- src/read_back.rt:109:37
 add-get-u16 : tie.Need-add-get-u16
 add-get-u16 c = omega (arith, kind-room (c .before .pre .2))
 
--- src/read_back.rt:109:9
 get-u16-requires : tie.Need-get-u16-requires
 get-u16-requires c κs = omega (arith, kind-room (c .before .pre .2))
 
--- src/read_back.rt:111:9
 returns : tie.Need-returns
 returns c = λ k t h. sym (ap length (command-tuple h (sym (c .before .get-u16 .ensures .0) ∙ c .if1 .taken)))
 
--- src/read_back.rt:114:9
 returns-2 : tie.Need-returns-2
 returns-2 c = λ k t h. sym (length-letOne h (sym (c .before .before .get-u16 .ensures .0) ∙ c .if2 .taken))
 
--- src/read_back.rt:117:33
 add-get-u16-2 : tie.Need-add-get-u16-2
 add-get-u16-2 c =
     omega (arith, first-room (c .before .before .before .before .before .pre .2) (sym (c .before .before .before .get-u16 .ensures .0) ∙ c .if3 .taken))
 
--- src/read_back.rt:117:12
 get-u16-requires-2 : tie.Need-get-u16-requires-2
 get-u16-requires-2 c κs =
     omega (arith, first-room (c .before .before .before .before .before .pre .2) (sym (c .before .before .before .get-u16 .ensures .0) ∙ c .if3 .taken))
 
--- src/read_back.rt:118:13
 returns-3 : tie.Need-returns-3
 returns-3 c =
     λ k t h. sym (ap length (command-loop h (sym (c .before .before .before .before .before .get-u16 .ensures .0) ∙ c .before .before .if3 .taken) (sym (c .before .get-u162 .ensures .0) ∙ c .if4 .taken)))
 
--- src/read_back.rt:120:9
 returns-4 : tie.Need-returns-4
 returns-4 c =
     λ k t h. sym (length-nest h (sym (c .before .before .before .before .before .get-u16 .ensures .0) ∙ c .before .before .if3 .taken) (λ e. c .if4 .left (c .before .get-u162 .ensures .0 ∙ e)))
 
--- src/read_back.rt:105:1
 returns-5 : tie.Need-returns-5
 returns-5 c =
     λ k t h. sym (length-rec h (kind-left h (λ e. c .before .before .if1 .left (c .before .before .before .get-u16 .ensures .0 ∙ e)) (λ e. c .before .if2 .left (c .before .before .before .get-u16 .ensures .0 ∙ e)) (λ e. c .if3 .left (c .before .before .before .get-u16 .ensures .0 ∙ e))))

@@ -1,67 +1,50 @@
 use borrow.Author.Needs.{needs}
 use Rattle.readback.proofs.read_back.own_size.Statement.{statement}
 use Rattle.readback.proofs.read_back.own_size.Tie as tie
-use Rattle.readback.proofs.read_back.own_size.Reads as reads
-use Rattle.readback.proofs.read_back.own_size.Lts as lts
-use Rattle.buffer.proofs.get_u16.Reads as get-u16-reads
 use native.Mathlib.Omega.{arith}
 use mathlib.Core.Path.{sym, _∙_}
-use Rattle.place.specs.TermView.{TermAt}
 use Rattle.readback.proofs.ScanLaws.{kind-left, kind-room, own-atom, own-letAll, own-of, own-rec, own-room, own-tuple}
 
--- src/read_back.rt:18:37
 add-get-u16 : tie.Need-add-get-u16
 add-get-u16 c = omega (arith, kind-room (c .before .pre .1))
 
--- src/read_back.rt:18:9
 get-u16-requires : tie.Need-get-u16-requires
 get-u16-requires c κs = omega (arith, kind-room (c .before .pre .1))
 
--- src/read_back.rt:20:20
 mul-result : tie.Need-mul-result
 mul-result c = search needs
 
--- src/read_back.rt:20:16
 add-result : tie.Need-add-result
 add-result c = search needs
 
--- src/read_back.rt:20:9
 returns : tie.Need-returns
 returns c = λ t h. sym (own-tuple h (sym (c .before .get-u16 .ensures .0) ∙ c .if1 .taken))
 
--- src/read_back.rt:23:33
 add-get-u16-2 : tie.Need-add-get-u16-2
 add-get-u16-2 c =
     omega (arith, own-room (c .before .before .before .before .pre .1) (sym (c .before .before .get-u16 .ensures .0) ∙ c .if2 .taken))
 
--- src/read_back.rt:23:12
 get-u16-requires-2 : tie.Need-get-u16-requires-2
 get-u16-requires-2 c κs =
     omega (arith, own-room (c .before .before .before .before .pre .1) (sym (c .before .before .get-u16 .ensures .0) ∙ c .if2 .taken))
 
--- src/read_back.rt:24:13
 returns-2 : tie.Need-returns-2
 returns-2 c =
     λ t h. sym (own-atom h (sym (c .before .before .before .before .get-u16 .ensures .0) ∙ c .before .before .if2 .taken) (rw (c .before .get-u162 .ensures .0) at (c .if3 .taken)))
 
--- src/read_back.rt:26:9
 returns-3 : tie.Need-returns-3
 returns-3 c =
     λ t h. sym (own-of h (sym (c .before .before .before .before .get-u16 .ensures .0) ∙ c .before .before .if2 .taken) (rw (c .before .get-u162 .ensures .0) at (c .if3 .left)))
 
--- src/read_back.rt:29:9
 returns-4 : tie.Need-returns-4
 returns-4 c = λ t h. sym (own-letAll h (sym (c .before .before .before .get-u16 .ensures .0) ∙ c .if4 .taken))
 
--- src/read_back.rt:31:10
 mul-result-2 : tie.Need-mul-result-2
 mul-result-2 c = search needs
 
--- src/read_back.rt:31:5
 add-result-2 : tie.Need-add-result-2
 add-result-2 c = search needs
 
--- src/read_back.rt:14:1
 returns-5 : tie.Need-returns-5
 returns-5 c =
     λ t h. sym (own-rec h (kind-left h (λ e. c .before .before .if1 .left (c .before .before .before .get-u16 .ensures .0 ∙ e)) (λ e. c .before .if2 .left (c .before .before .before .get-u16 .ensures .0 ∙ e)) (λ e. c .if4 .left (c .before .before .before .get-u16 .ensures .0 ∙ e))))

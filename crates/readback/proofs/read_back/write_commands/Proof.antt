@@ -1,10 +1,5 @@
 use Rattle.readback.proofs.read_back.write_commands.Statement.{statement}
 use Rattle.readback.proofs.read_back.write_commands.Tie as tie
-use Rattle.readback.proofs.read_back.write_commands.Reads as reads
-use Rattle.readback.proofs.read_back.write_commands.Lts as lts
-use Rattle.readback.proofs.read_back.own_command_size.Reads as own-command-size-reads
-use Rattle.readback.proofs.read_back.own_size.Reads as own-size-reads
-use Rattle.readback.proofs.read_back.write_own.Reads as write-own-reads
 use native.Mathlib.Omega.{arith}
 use mathlib.Core.List.{List}
 use mathlib.Core.Path.{refl, _∙_, _≡_}
@@ -22,51 +17,43 @@ Inv-loop src from to k out₀ start at₀ o₀ out at o =
 abbrev μ-loop : tie.MeasureT-loop
 μ-loop src from to k out₀ start at₀ o₀ out at o = to - at
 
--- src/read_back.rt:250:5
 loop-holds : tie.Need-loop-holds Inv-loop μ-loop
 loop-holds c = ((λ ts h. write-start (c .before .before .args .out .now) (c .before .before .args .start) h), refl)
 
--- src/read_back.rt:251:9
 write-own-requires : tie.Need-write-own-requires Inv-loop μ-loop
 write-own-requires c κs =
     let q = c .before .before .before .before .before .pre .0 in
     let u = write-here (c .before .before .loop .inv .0 (q .0) (q .1)) (c .before .loop-test .taken) in
     (u .0, u .1, omega (arith, u .2, q .2, c .before .before .loop .inv .1))
 
--- src/read_back.rt:252:14
 own-command-size-requires : tie.Need-own-command-size-requires Inv-loop μ-loop
 own-command-size-requires c κs =
     let q = c .before .before .before .before .before .before .before .before .pre .0 in
     let u = write-here (c .before .before .before .before .before .loop .inv .0 (q .0) (q .1)) (c .before .before .before .before .loop-test .taken) in
     (c .before .before .before .before .before .before .before .before .args .k, u .0, u .1)
 
--- src/read_back.rt:252:9
 add-o : tie.Need-add-o Inv-loop μ-loop
 add-o c =
     let q = c .before .before .before .before .before .before .before .before .before .pre .0 in
     let u = write-here (c .before .before .before .before .before .before .loop .inv .0 (q .0) (q .1)) (c .before .before .before .before .before .loop-test .taken) in
     omega (arith, u .2, q .2, c .own-command-size .ensures (c .before .before .before .before .before .before .before .before .before .args .k) (u .0) (u .1))
 
--- src/read_back.rt:253:15
 own-size-requires : tie.Need-own-size-requires Inv-loop μ-loop
 own-size-requires c κs =
     let q = c .before .before .before .before .before .before .before .before .before .pre .0 in
     let u = write-here (c .before .before .before .before .before .before .loop .inv .0 (q .0) (q .1)) (c .before .before .before .before .before .loop-test .taken) in
     (u .0, u .1)
 
--- src/read_back.rt:253:9
 add-at : tie.Need-add-at Inv-loop μ-loop
 add-at c =
     let q = c .before .before .before .before .before .before .before .before .before .before .pre .0 in
     omega (arith, terms-pass (c .before .before .before .before .before .before .before .loop .inv .0 (q .0) (q .1) .row) (c .before .before .before .before .before .before .loop-test .taken) (c .own-size .result) (c .own-size .ensures), c .before .before .before .before .before .before .before .before .before .before .pre .1)
 
--- src/read_back.rt:250:5
 loop-less : tie.Need-loop-less Inv-loop μ-loop
 loop-less c =
     let q = c .before .before .before .before .before .before .before .before .before .before .pre .0 in
     omega (arith, terms-pass (c .before .before .before .before .before .before .before .loop .inv .0 (q .0) (q .1) .row) (c .before .before .before .before .before .before .loop-test .taken) (c .own-size .result) (c .own-size .ensures), c .before .before .before .before .before .before .before .before .before .before .pre .1)
 
--- src/read_back.rt:250:5
 loop-again : tie.Need-loop-again Inv-loop μ-loop
 loop-again c =
     let q = c .before .before .before .before .before .before .before .before .before .before .pre .0 in
@@ -75,11 +62,9 @@ loop-again c =
       c .before .before .before .out .given ∙ c .before .before .before .before .before .before .before .loop .inv .1,
     )
 
--- src/read_back.rt:244:1
 same-length : tie.Need-same-length Inv-loop μ-loop
 same-length c = c .before .loop .inv .1
 
--- src/read_back.rt:244:1
 returns : tie.Need-returns Inv-loop μ-loop
 returns c = λ ts h. write-end (c .before .loop .inv .0 ts h) (c .loop-test .left)
 

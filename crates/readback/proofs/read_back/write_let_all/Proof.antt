@@ -1,13 +1,8 @@
 use borrow.Author.Needs.{needs}
 use Rattle.readback.proofs.read_back.write_let_all.Statement.{statement}
 use Rattle.readback.proofs.read_back.write_let_all.Tie as tie
-use Rattle.readback.proofs.read_back.write_let_all.Reads as reads
-use Rattle.readback.proofs.read_back.write_let_all.Lts as lts
-use Rattle.buffer.proofs.get_u16.Reads as get-u16-reads
-use Rattle.readback.proofs.read_back.commands_size.Reads as commands-size-reads
-use Rattle.readback.proofs.read_back.put_head.Reads as put-head-reads
 use native.Mathlib.Omega.{arith}
-use mathlib.Core.List.{List, [], _∷_}
+use mathlib.Core.List.{[], _∷_}
 use mathlib.Core.Path.{ap, sym, _∙_}
 use Rattle.buffer.specs.Slice.{put}
 use Rattle.buffer.proofs.SliceLaws.{put-nil}
@@ -15,64 +10,51 @@ use Rattle.place.proofs.TermViewLaws.{as-letAll}
 use Rattle.readback.proofs.CommandLaws.{command-loop, first-room, length-nest}
 use Rattle.readback.proofs.WriteLaws.{letAll-bytes, letAll-first, letAll-room}
 
--- src/read_back.rt:201:29
 add-get-u16 : tie.Need-add-get-u16
 add-get-u16 c = omega (arith, first-room (c .before .before .pre .0 .1) (c .before .before .pre .1))
 
--- src/read_back.rt:201:8
 get-u16-requires : tie.Need-get-u16-requires
 get-u16-requires c κs = omega (arith, first-room (c .before .before .pre .0 .1) (c .before .before .pre .1))
 
--- src/read_back.rt:202:9
 returns : tie.Need-returns
 returns c =
     λ t h. sym (ap (put (c .before .before .before .before .args .out .now) (c .before .before .before .before .args .o)) (command-loop h (c .before .before .before .before .pre .1) (sym (c .before .get-u16 .ensures .0) ∙ c .if1 .taken)) ∙ put-nil (c .before .before .before .before .args .out .now) (c .before .before .before .before .args .o))
 
--- src/read_back.rt:204:32
 add-commands-size : tie.Need-add-commands-size
 add-commands-size c =
     omega (arith, first-room (c .before .before .before .before .pre .0 .1) (c .before .before .before .before .pre .1))
 
--- src/read_back.rt:204:40
 add-commands-size-2 : tie.Need-add-commands-size-2
 add-commands-size-2 c =
     omega (arith, first-room (c .before .before .before .before .pre .0 .1) (c .before .before .before .before .pre .1))
 
--- src/read_back.rt:204:70
 add-get-u16-2 : tie.Need-add-get-u16-2
 add-get-u16-2 c =
     omega (arith, first-room (c .before .before .before .before .pre .0 .1) (c .before .before .before .before .pre .1))
 
--- src/read_back.rt:204:49
 get-u16-requires-2 : tie.Need-get-u16-requires-2
 get-u16-requires-2 c κs =
     omega (arith, first-room (c .before .before .before .before .pre .0 .1) (c .before .before .before .before .pre .1))
 
--- src/read_back.rt:204:40
 add-commands-size-3 : tie.Need-add-commands-size-3
 add-commands-size-3 c =
     omega (arith, letAll-room (c .before .before .before .before .before .pre .0 .1) (c .before .before .before .before .before .pre .1) (c .get-u162 .result) (c .get-u162 .ensures .0))
 
--- src/read_back.rt:204:9
 commands-size-requires : tie.Need-commands-size-requires
 commands-size-requires c κs =
     let h = c .before .before .before .before .before .pre .0 .1 in
     ((as-letAll h (c .before .before .before .before .before .pre .1) .first ∷ [], letAll-first h (c .before .before .before .before .before .pre .1) (c .get-u162 .result) (c .get-u162 .ensures .0)), letAll-room h (c .before .before .before .before .before .pre .1) (c .get-u162 .result) (c .get-u162 .ensures .0))
 
--- src/read_back.rt:205:25
 add-put-head : tie.Need-add-put-head
 add-put-head c = omega (arith, c .before .commands-size .ensures .1, c .before .before .get-u162 .ensures .1)
 
--- src/read_back.rt:205:5
 put-head-requires : tie.Need-put-head-requires
 put-head-requires c κs =
     omega (arith, length-nest (c .before .before .before .before .before .before .before .pre .0 .1) (c .before .before .before .before .before .before .before .pre .1) (λ e. c .before .before .before .if1 .left (c .before .before .before .before .get-u16 .ensures .0 ∙ e)), c .before .before .before .before .before .before .before .pre .0 .2)
 
--- src/read_back.rt:197:1
 same-length : tie.Need-same-length
 same-length c = search needs
 
--- src/read_back.rt:197:1
 returns-2 : tie.Need-returns-2
 returns-2 c =
     λ t h.

@@ -1,78 +1,59 @@
 use borrow.Author.Needs.{needs}
 use Rattle.readback.proofs.read_back.write_let_one.Statement.{statement}
 use Rattle.readback.proofs.read_back.write_let_one.Tie as tie
-use Rattle.readback.proofs.read_back.write_let_one.Reads as reads
-use Rattle.readback.proofs.read_back.write_let_one.Lts as lts
-use Rattle.buffer.proofs.get_u16.Reads as get-u16-reads
-use Rattle.buffer.proofs.get_u32.Reads as get-u32-reads
-use Rattle.readback.proofs.read_back.own_size.Reads as own-size-reads
-use Rattle.readback.proofs.read_back.put_assign.Reads as put-assign-reads
 use native.Mathlib.Omega.{arith}
-use mathlib.Core.List.{List}
-use mathlib.Core.Path.{ap, sym, _∙_}
+use mathlib.Core.Path.{ap, _∙_}
 use Prim.Native.Nat.{_+_, _-_, ℕ}
 use Rattle.buffer.specs.Slice.{put}
 use Rattle.readback.proofs.CommandLaws.{length-letOne}
 use Rattle.readback.proofs.WriteLaws.{letOne-bytes, letOne-room}
 
--- src/read_back.rt:190:34
 add-get-u32 : tie.Need-add-get-u32
 add-get-u32 c = omega (arith, letOne-room (c .before .before .pre .0 .1) (c .before .before .pre .1))
 
--- src/read_back.rt:190:9
 get-u32-requires : tie.Need-get-u32-requires
 get-u32-requires c κs = omega (arith, letOne-room (c .before .before .pre .0 .1) (c .before .before .pre .1))
 
--- src/read_back.rt:191:37
 add-get-u16 : tie.Need-add-get-u16
 add-get-u16 c = omega (arith, letOne-room (c .before .before .before .pre .0 .1) (c .before .before .before .pre .1))
 
--- src/read_back.rt:191:16
 get-u16-requires : tie.Need-get-u16-requires
 get-u16-requires c κs =
     omega (arith, letOne-room (c .before .before .before .pre .0 .1) (c .before .before .before .pre .1))
 
--- src/read_back.rt:191:16
 sub-kind : tie.Need-sub-kind
 sub-kind c =
     omega (arith, letOne-room (c .before .before .before .before .pre .0 .1) (c .before .before .before .before .pre .1), c .get-u16 .ensures .0)
 
--- src/read_back.rt:193:39
 own-size-requires : tie.Need-own-size-requires
 own-size-requires c κs = (c .before .before .before .before .pre .0 .0, c .before .before .before .before .pre .0 .1)
 
--- src/read_back.rt:193:34
 add-get-u32-2 : tie.Need-add-get-u32-2
 add-get-u32-2 c =
     omega (arith, letOne-room (c .before .before .before .before .before .pre .0 .1) (c .before .before .before .before .before .pre .1), c .own-size .ensures (c .before .before .before .before .before .pre .0 .0) (c .before .before .before .before .before .pre .0 .1))
 
--- src/read_back.rt:193:34
 sub-get-u32 : tie.Need-sub-get-u32
 sub-get-u32 c =
     omega (arith, letOne-room (c .before .before .before .before .before .pre .0 .1) (c .before .before .before .before .before .pre .1), c .own-size .ensures (c .before .before .before .before .before .pre .0 .0) (c .before .before .before .before .before .pre .0 .1))
 
--- src/read_back.rt:193:9
 get-u32-requires-2 : tie.Need-get-u32-requires-2
 get-u32-requires-2 c κs =
     omega (arith, letOne-room (c .before .before .before .before .before .pre .0 .1) (c .before .before .before .before .before .pre .1), c .own-size .ensures (c .before .before .before .before .before .pre .0 .0) (c .before .before .before .before .before .pre .0 .1))
 
--- src/read_back.rt:194:5
-put-assign-requires : tie.Need-put-assign-requires
-put-assign-requires c κs =
+put-lead-requires : tie.Need-put-lead-requires
+put-lead-requires c κs =
     omega (arith, length-letOne (c .before .before .before .before .before .before .before .pre .0 .1) (c .before .before .before .before .before .before .before .pre .1), c .before .before .before .before .before .before .before .pre .0 .2)
 
--- src/read_back.rt:186:1
 same-length : tie.Need-same-length
 same-length c = search needs
 
--- src/read_back.rt:186:1
 returns : tie.Need-returns
 returns c =
     λ t h.
     let a = c .before .before .before .before .before .before .before .before .before .before .args in
     let n = c .before .before .before .before .before .own-size .ensures t h in
     let r = letOne-room h (c .before .before .before .before .before .before .before .before .before .before .pre .1) in
-    c .before .before .put-assign .ensures
+    c .before .before .put-lead .ensures
     ∙ ap (put (a .out .now) (a .o)) (letOne-bytes h (c .before .before .before .before .before .before .before .before .before .before .pre .1) (c .before .before .before .before .before .before .before .get-u32 .result) (c .before .before .before .before .before .before .get-u16 .result - 16) (c .before .before .before .before .get-u322 .result) (a .at + c .before .before .before .before .before .own-size .result - 4) (c .before .before .before .before .before .before .before .get-u32 .ensures) (ap (λ (y : ℕ). y - 16) (c .before .before .before .before .before .before .get-u16 .ensures .0)) (omega arith) (c .before .before .before .before .get-u322 .ensures))
 
 pub write-let-one-spec : {M : Type 1} → statement M
@@ -88,6 +69,6 @@ write-let-one-spec =
     add-get-u32-2
     sub-get-u32
     get-u32-requires-2
-    put-assign-requires
+    put-lead-requires
     same-length
     returns)

@@ -1,12 +1,6 @@
 use borrow.Author.Needs.{needs}
 use Rattle.readback.proofs.read_back.write_own.Statement.{statement}
 use Rattle.readback.proofs.read_back.write_own.Tie as tie
-use Rattle.readback.proofs.read_back.write_own.Reads as reads
-use Rattle.readback.proofs.read_back.write_own.Lts as lts
-use Rattle.buffer.proofs.get_u16.Reads as get-u16-reads
-use Rattle.readback.proofs.read_back.write_let_all.Reads as write-let-all-reads
-use Rattle.readback.proofs.read_back.write_let_one.Reads as write-let-one-reads
-use Rattle.readback.proofs.read_back.write_rec.Reads as write-rec-reads
 use native.Mathlib.Omega.{arith}
 use mathlib.Core.Path.{ap, sym, _∙_}
 use Rattle.buffer.specs.Slice.{put}
@@ -14,55 +8,43 @@ use Rattle.buffer.proofs.SliceLaws.{put-nil}
 use Rattle.readback.proofs.CommandLaws.{command-tuple}
 use Rattle.readback.proofs.ScanLaws.{kind-left, kind-room}
 
--- src/read_back.rt:229:37
 add-get-u16 : tie.Need-add-get-u16
 add-get-u16 c = omega (arith, kind-room (c .before .before .pre .1))
 
--- src/read_back.rt:229:9
 get-u16-requires : tie.Need-get-u16-requires
 get-u16-requires c κs = omega (arith, kind-room (c .before .before .pre .1))
 
--- src/read_back.rt:231:9
 returns : tie.Need-returns
 returns c =
     λ t h. sym (ap (put (c .before .before .before .before .args .out .now) (c .before .before .before .before .args .o)) (command-tuple h (sym (c .before .get-u16 .ensures .0) ∙ c .if1 .taken)) ∙ put-nil (c .before .before .before .before .args .out .now) (c .before .before .before .before .args .o))
 
--- src/read_back.rt:234:9
 write-let-one-requires : tie.Need-write-let-one-requires
 write-let-one-requires c κs =
     (c .before .before .before .before .before .before .pre, sym (c .before .before .before .get-u16 .ensures .0) ∙ c .before .if2 .taken)
 
--- src/read_back.rt:235:9
 same-length : tie.Need-same-length
 same-length c = search needs
 
--- src/read_back.rt:235:9
 returns-2 : tie.Need-returns-2
 returns-2 c = c .before .before .write-let-one .ensures
 
--- src/read_back.rt:238:9
 write-let-all-requires : tie.Need-write-let-all-requires
 write-let-all-requires c κs =
     (c .before .before .before .before .before .before .before .pre, sym (c .before .before .before .before .get-u16 .ensures .0) ∙ c .before .if3 .taken)
 
--- src/read_back.rt:239:9
 same-length-2 : tie.Need-same-length-2
 same-length-2 c = search needs
 
--- src/read_back.rt:239:9
 returns-3 : tie.Need-returns-3
 returns-3 c = c .before .before .write-let-all .ensures
 
--- src/read_back.rt:241:5
 write-rec-requires : tie.Need-write-rec-requires
 write-rec-requires c κs =
     (c .before .before .before .before .before .before .before .pre, kind-left (c .before .before .before .before .before .before .before .pre .1) (λ e. c .before .before .before .if1 .left (c .before .before .before .before .get-u16 .ensures .0 ∙ e)) (λ e. c .before .before .if2 .left (c .before .before .before .before .get-u16 .ensures .0 ∙ e)) (λ e. c .before .if3 .left (c .before .before .before .before .get-u16 .ensures .0 ∙ e)))
 
--- src/read_back.rt:225:1
 same-length-3 : tie.Need-same-length-3
 same-length-3 c = search needs
 
--- src/read_back.rt:225:1
 returns-4 : tie.Need-returns-4
 returns-4 c = c .before .before .write-rec .ensures
 

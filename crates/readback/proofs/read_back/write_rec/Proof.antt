@@ -1,16 +1,9 @@
 use borrow.Author.Needs.{needs}
 use Rattle.readback.proofs.read_back.write_rec.Statement.{statement}
 use Rattle.readback.proofs.read_back.write_rec.Tie as tie
-use Rattle.readback.proofs.read_back.write_rec.Reads as reads
-use Rattle.readback.proofs.read_back.write_rec.Lts as lts
-use Rattle.buffer.proofs.get_u16.Reads as get-u16-reads
-use Rattle.buffer.proofs.get_u32.Reads as get-u32-reads
-use Rattle.readback.proofs.read_back.commands_size.Reads as commands-size-reads
-use Rattle.readback.proofs.read_back.own_size.Reads as own-size-reads
-use Rattle.readback.proofs.read_back.put_loop.Reads as put-loop-reads
 use native.Mathlib.Omega.{arith}
-use mathlib.Core.List.{List, [], _∷_}
-use mathlib.Core.Path.{ap, refl, sym, _∙_}
+use mathlib.Core.List.{[], _∷_}
+use mathlib.Core.Path.{ap, refl, _∙_}
 use Prim.Native.Nat.{_-_, ℕ}
 use Rattle.buffer.specs.LittleEndian.{val}
 use Rattle.buffer.specs.Slice.{part, put}
@@ -19,79 +12,64 @@ use Rattle.readback.proofs.CommandLaws.{length-rec}
 use Rattle.readback.proofs.ScanLaws.{terms-order}
 use Rattle.readback.proofs.WriteLaws.{rec-body, rec-bytes, rec-room}
 
--- src/read_back.rt:212:34
 add-get-u32 : tie.Need-add-get-u32
 add-get-u32 c =
     omega (arith, rec-room (c .before .before .pre .0 .1) (c .before .before .pre .1) (val (part (c .before .before .args .src .now) (c .before .before .args .at) 2)) refl)
 
--- src/read_back.rt:212:9
 get-u32-requires : tie.Need-get-u32-requires
 get-u32-requires c κs =
     omega (arith, rec-room (c .before .before .pre .0 .1) (c .before .before .pre .1) (val (part (c .before .before .args .src .now) (c .before .before .args .at) 2)) refl)
 
--- src/read_back.rt:213:37
 add-get-u16 : tie.Need-add-get-u16
 add-get-u16 c =
     omega (arith, rec-room (c .before .before .before .pre .0 .1) (c .before .before .before .pre .1) (val (part (c .before .before .before .args .src .now) (c .before .before .before .args .at) 2)) refl)
 
--- src/read_back.rt:213:16
 get-u16-requires : tie.Need-get-u16-requires
 get-u16-requires c κs =
     omega (arith, rec-room (c .before .before .before .pre .0 .1) (c .before .before .before .pre .1) (val (part (c .before .before .before .args .src .now) (c .before .before .before .args .at) 2)) refl)
 
--- src/read_back.rt:213:16
 sub-kind : tie.Need-sub-kind
 sub-kind c =
     omega (arith, rec-room (c .before .before .before .before .pre .0 .1) (c .before .before .before .before .pre .1) (val (part (c .before .before .before .before .args .src .now) (c .before .before .before .before .args .at) 2)) refl, c .get-u16 .ensures .0)
 
--- src/read_back.rt:214:34
 add-get-u32-2 : tie.Need-add-get-u32-2
 add-get-u32-2 c =
     omega (arith, rec-room (c .before .before .before .before .pre .0 .1) (c .before .before .before .before .pre .1) (val (part (c .before .before .before .before .args .src .now) (c .before .before .before .before .args .at) 2)) refl)
 
--- src/read_back.rt:214:9
 get-u32-requires-2 : tie.Need-get-u32-requires-2
 get-u32-requires-2 c κs =
     omega (arith, rec-room (c .before .before .before .before .pre .0 .1) (c .before .before .before .before .pre .1) (val (part (c .before .before .before .before .args .src .now) (c .before .before .before .before .args .at) 2)) refl)
 
--- src/read_back.rt:215:37
 own-size-requires : tie.Need-own-size-requires
 own-size-requires c κs =
     (c .before .before .before .before .before .pre .0 .0, c .before .before .before .before .before .pre .0 .1)
 
--- src/read_back.rt:215:32
 add-commands-size : tie.Need-add-commands-size
 add-commands-size c =
     let h = c .before .before .before .before .before .before .pre .0 .1 in
     let m = val (part (c .before .before .before .before .before .before .args .src .now) (c .before .before .before .before .before .before .args .at) 2) in
     omega (arith, terms-order (rec-body h (c .before .before .before .before .before .before .pre .1) m (c .own-size .result) refl (c .own-size .ensures (c .before .before .before .before .before .before .pre .0 .0) h)), rec-room h (c .before .before .before .before .before .before .pre .1) m refl)
 
--- src/read_back.rt:215:64
 get-u16-requires-2 : tie.Need-get-u16-requires-2
 get-u16-requires-2 c κs =
     omega (arith, rec-room (c .before .before .before .before .before .before .pre .0 .1) (c .before .before .before .before .before .before .pre .1) (val (part (c .before .before .before .before .before .before .args .src .now) (c .before .before .before .before .before .before .args .at) 2)) refl)
 
--- src/read_back.rt:215:59
 add-commands-size-2 : tie.Need-add-commands-size-2
 add-commands-size-2 c =
     omega (arith, rec-room (c .before .before .before .before .before .before .before .pre .0 .1) (c .before .before .before .before .before .before .before .pre .1) (c .get-u162 .result) (c .get-u162 .ensures .0))
 
--- src/read_back.rt:215:9
 commands-size-requires : tie.Need-commands-size-requires
 commands-size-requires c κs =
     let h = c .before .before .before .before .before .before .before .pre .0 .1 in
     ((as-rec h (c .before .before .before .before .before .before .before .pre .1) .body ∷ [], rec-body h (c .before .before .before .before .before .before .before .pre .1) (c .get-u162 .result) (c .before .own-size .result) (c .get-u162 .ensures .0) (c .before .own-size .ensures (c .before .before .before .before .before .before .before .pre .0 .0) h)), rec-room h (c .before .before .before .before .before .before .before .pre .1) (c .get-u162 .result) (c .get-u162 .ensures .0) .0)
 
--- src/read_back.rt:216:5
 put-loop-requires : tie.Need-put-loop-requires
 put-loop-requires c κs =
     (omega (arith, length-rec (c .before .before .before .before .before .before .before .before .before .pre .0 .1) (c .before .before .before .before .before .before .before .before .before .pre .1), c .before .before .before .before .before .before .before .before .before .pre .0 .2), omega (arith, c .before .commands-size .ensures .1, c .before .before .get-u162 .ensures .1))
 
--- src/read_back.rt:208:1
 same-length : tie.Need-same-length
 same-length c = search needs
 
--- src/read_back.rt:208:1
 returns : tie.Need-returns
 returns c =
     λ t h.

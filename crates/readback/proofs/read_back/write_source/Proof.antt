@@ -1,13 +1,6 @@
 use borrow.Author.Needs.{needs}
 use Rattle.readback.proofs.read_back.write_source.Statement.{statement}
 use Rattle.readback.proofs.read_back.write_source.Tie as tie
-use Rattle.readback.proofs.read_back.write_source.Reads as reads
-use Rattle.readback.proofs.read_back.write_source.Lts as lts
-use Rattle.buffer.proofs.put_u32.Reads as put-u32-reads
-use Rattle.buffer.proofs.zero.Reads as zero-reads
-use Rattle.readback.proofs.read_back.put_head.Reads as put-head-reads
-use Rattle.readback.proofs.read_back.source_size.Reads as source-size-reads
-use Rattle.readback.proofs.read_back.write_commands.Reads as write-commands-reads
 use native.Mathlib.Omega.{arith}
 use mathlib.Core.List.{[], _∷_}
 use mathlib.Core.Path.{_∙_}
@@ -18,39 +11,32 @@ use Rattle.readback.proofs.CommandLaws.{program-length}
 use Rattle.readback.proofs.ScanLaws.{terms-one}
 use Rattle.readback.proofs.WriteLaws.{write-program}
 
--- src/read_back.rt:262:9
 source-size-requires : tie.Need-source-size-requires
 source-size-requires c κs = search needs
 
--- src/read_back.rt:263:5
 put-head-requires : tie.Need-put-head-requires
 put-head-requires c κs =
     let q = c .before .before .before .before .pre .0 in
     omega (arith, q .4, length-encodeProgram (c .before .before .before .before .args .k) (q .1))
 
--- src/read_back.rt:264:5
 put-u32-requires : tie.Need-put-u32-requires
 put-u32-requires c κs =
     let q = c .before .before .before .before .before .before .before .before .pre .0 in
     omega (arith, q .4, length-encodeProgram (c .before .before .before .before .before .before .before .before .args .k) (q .1), c .before .before .out .given)
 
--- src/read_back.rt:265:32
 sub-put-head : tie.Need-sub-put-head
 sub-put-head c =
     let q = c .before .before .before .before .before .before .before .before .before .before .before .before .pre .0 in
     omega (arith, c .before .before .before .before .before .before .before .before .before .source-size .ensures (q .0) (q .1) (q .2) (q .3), length-encodeProgram (c .before .before .before .before .before .before .before .before .before .before .before .before .args .k) (q .1))
 
--- src/read_back.rt:265:5
 put-head-requires-2 : tie.Need-put-head-requires-2
 put-head-requires-2 c κs =
     let q = c .before .before .before .before .before .before .before .before .before .before .before .before .pre .0 in
     omega (arith, q .4, length-encodeProgram (c .before .before .before .before .before .before .before .before .before .before .before .before .args .k) (q .1), c .before .before .out2 .given ∙ c .before .before .before .before .before .before .out .given)
 
--- src/read_back.rt:266:49
 add-write-commands : tie.Need-add-write-commands
 add-write-commands c = search needs
 
--- src/read_back.rt:266:5
 write-commands-requires : tie.Need-write-commands-requires
 write-commands-requires c κs =
     let q = c .before .before .before .before .before .before .before .before .before .before .before .before .before .before .before .before .pre .0 in
@@ -63,23 +49,19 @@ write-commands-requires c κs =
       h .within,
     )
 
--- src/read_back.rt:268:26
 sub-zero : tie.Need-sub-zero
 sub-zero c =
     let q = c .before .before .before .before .before .before .before .before .before .before .before .before .before .before .before .before .before .before .before .before .pre .0 in
     omega (arith, q .4, c .before .before .before .before .before .before .before .before .before .before .before .before .before .before .before .before .before .source-size .ensures (q .0) (q .1) (q .2) (q .3), c .before .before .out4 .given ∙ c .before .before .before .before .before .before .out3 .given ∙ c .before .before .before .before .before .before .before .before .before .before .out2 .given ∙ c .before .before .before .before .before .before .before .before .before .before .before .before .before .before .out .given)
 
--- src/read_back.rt:268:5
 zero-requires : tie.Need-zero-requires
 zero-requires c κs =
     let q = c .before .before .before .before .before .before .before .before .before .before .before .before .before .before .before .before .before .before .before .before .pre .0 in
     omega (arith, q .4, c .before .before .before .before .before .before .before .before .before .before .before .before .before .before .before .before .before .source-size .ensures (q .0) (q .1) (q .2) (q .3), c .before .before .out4 .given ∙ c .before .before .before .before .before .before .out3 .given ∙ c .before .before .before .before .before .before .before .before .before .before .out2 .given ∙ c .before .before .before .before .before .before .before .before .before .before .before .before .before .before .out .given)
 
--- src/read_back.rt:258:1
 same-length : tie.Need-same-length
 same-length c = search needs
 
--- src/read_back.rt:258:1
 returns : tie.Need-returns
 returns c =
     λ t P h e.

@@ -27,14 +27,14 @@ remove-requires c κs =
 enum-told-4 : tie.Need-enum-told-4
 enum-told-4 c = search needs
 
-add-put-literal : tie.Need-add-put-literal
-add-put-literal c =
+add-put-leaf : tie.Need-add-put-leaf
+add-put-leaf c =
     let a = c .before .before .before .before .before .args in
     let e : a .p .at + 16 ≤ a .used = subst (λ (r : Rule). EditFits (a .p) r (a .used) (length (a .buf .now))) (c .before .before .enum-told4 .given .1) (c .before .before .before .before .before .pre .0) in
     omega arith
 
-put-literal-requires : tie.Need-put-literal-requires
-put-literal-requires c κs =
+put-leaf-requires : tie.Need-put-leaf-requires
+put-leaf-requires c κs =
     let a = c .before .before .before .before .before .args in
     let e : a .p .at + 16 ≤ a .used = subst (λ (r : Rule). EditFits (a .p) r (a .used) (length (a .buf .now))) (c .before .before .enum-told4 .given .1) (c .before .before .before .before .before .pre .0) in
     omega arith
@@ -90,7 +90,7 @@ same-length-2 c = search needs
 returns-4 : tie.Need-returns-4
 unfolding edited
 returns-4 c =
-    c .before .before .put-literal .ensures ∙ ap (λ (r : Rule). edited (c .before .before .before .before .before .before .before .before .args .p) r (c .before .before .before .before .before .before .before .before .args .used) (c .before .before .before .before .before .before .before .before .args .buf .now)) (sym (c .before .before .before .before .before .enum-told4 .given .1))
+    c .before .before .put-leaf .ensures ∙ ap (λ (r : Rule). edited (c .before .before .before .before .before .before .before .before .args .p) r (c .before .before .before .before .before .before .before .before .args .used) (c .before .before .before .before .before .before .before .before .args .buf .now)) (sym (c .before .before .before .before .before .enum-told4 .given .1))
 
 same-length-3 : tie.Need-same-length-3
 same-length-3 c = search needs
@@ -125,8 +125,8 @@ edit-spec =
     enum-told-3
     remove-requires
     enum-told-4
-    add-put-literal
-    put-literal-requires
+    add-put-leaf
+    put-leaf-requires
     enum-told-5
     remove-requires-2
     enum-told-6

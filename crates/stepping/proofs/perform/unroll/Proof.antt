@@ -37,20 +37,20 @@ add-put-head c = search needs
 put-head-requires : tie.Need-put-head-requires
 put-head-requires c κs = search needs
 
-add-put-literal : tie.Need-add-put-literal
-add-put-literal c = search needs
+add-put-leaf : tie.Need-add-put-leaf
+add-put-leaf c = search needs
 
-put-literal-requires : tie.Need-put-literal-requires
-put-literal-requires c κs = search needs
+put-leaf-requires : tie.Need-put-leaf-requires
+put-leaf-requires c κs = search needs
 
-add-put-assignment : tie.Need-add-put-assignment
-add-put-assignment c = search needs
+add-put-lead : tie.Need-add-put-lead
+add-put-lead c = search needs
 
-add-put-assignment-2 : tie.Need-add-put-assignment-2
-add-put-assignment-2 c = search needs
+add-put-lead-2 : tie.Need-add-put-lead-2
+add-put-lead-2 c = search needs
 
-put-assignment-requires : tie.Need-put-assignment-requires
-put-assignment-requires c κs = search needs
+put-lead-requires : tie.Need-put-lead-requires
+put-lead-requires c κs = search needs
 
 same-length : tie.Need-same-length
 same-length c = search needs
@@ -58,7 +58,7 @@ same-length c = search needs
 returns : tie.Need-returns
 returns c =
     let a = c .before .before .before .before .before .before .before .before .before .before .before .before .before .before .before .before .before .before .before .before .before .args in
-    unrolled-is (a .buf .now) _ _ _ _ _ (a .at) (a .n) (a .used) (a .x) (a .v) (c .before .before .before .before .before .before .before .before .before .before .before .before .before .before .before .before .before .before .move-up .ensures) (c .before .before .before .before .before .before .before .before .before .before .before .before .before .before .move-up2 .ensures) (c .before .before .before .before .before .before .before .before .before .before .put-head .ensures) (c .before .before .before .before .before .before .put-literal .ensures) (c .before .before .put-assignment .ensures)
+    unrolled-is (a .buf .now) _ _ _ _ _ (a .at) (a .n) (a .used) (a .x) (a .v) (c .before .before .before .before .before .before .before .before .before .before .before .before .before .before .before .before .before .before .move-up .ensures) (c .before .before .before .before .before .before .before .before .before .before .before .before .before .before .move-up2 .ensures) (c .before .before .before .before .before .before .before .before .before .before .put-head .ensures) (c .before .before .before .before .before .before .put-leaf .ensures) (c .before .before .put-lead .ensures)
 
 pub unroll-spec : {M : Type 1} → statement M
 unroll-spec =
@@ -75,10 +75,10 @@ unroll-spec =
     move-up-requires-2
     add-put-head
     put-head-requires
-    add-put-literal
-    put-literal-requires
-    add-put-assignment
-    add-put-assignment-2
-    put-assignment-requires
+    add-put-leaf
+    put-leaf-requires
+    add-put-lead
+    add-put-lead-2
+    put-lead-requires
     same-length
     returns)

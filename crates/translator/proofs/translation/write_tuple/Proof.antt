@@ -28,15 +28,8 @@ add-p c = omega arith
 loop-holds : tie.Need-loop-holds Inv-loop μ-loop
 loop-holds c = (omega arith, omega arith, omega arith, refl, refl)
 
-put-head-requires-2 : tie.Need-put-head-requires-2 Inv-loop μ-loop
-put-head-requires-2 c κs = omega (arith, c .before .before .before .before .before .put-head .kept .0)
-
-add-put-u32 : tie.Need-add-put-u32 Inv-loop μ-loop
-add-put-u32 c = omega arith
-
-put-u32-requires : tie.Need-put-u32-requires Inv-loop μ-loop
-put-u32-requires c κs =
-    omega (arith, c .before .before .before .before .before .before .before .before .before .put-head .kept .0, c .before .before .before .put-head2 .kept .0)
+put-leaf-requires : tie.Need-put-leaf-requires Inv-loop μ-loop
+put-leaf-requires c κs = omega (arith, c .before .before .before .before .before .put-head .kept .0)
 
 add-p-2 : tie.Need-add-p-2 Inv-loop μ-loop
 add-p-2 c = omega arith
@@ -49,11 +42,11 @@ loop-less c = omega arith
 
 loop-again : tie.Need-loop-again Inv-loop μ-loop
 loop-again c =
-    let l = c .before .before .before .before .before .before .before .before .before .loop in
-    let few = c .before .before .before .before .before .before .before .before .before .before .before .before .before .before .before .before .pre in
-    let n = c .before .before .before .before .before .before .before .before .before .before .before .before .put-head .kept .0 in
-    let turn = atoms-turn (l .out) _ _ (l .p) (l .x) (c .before .before .before .before .before .before .before .before .before .before .before .before .before .before .before .before .args .k) (omega arith) (omega arith) (c .before .before .before .before .before .before .put-head2 .ensures) (c .before .before .put-u32 .ensures) in
-    (omega arith, omega arith, omega arith, c .before .before .put-u32 .kept .0 ∙ c .before .before .before .before .before .before .put-head2 .kept .0 ∙ l .inv .3, turn ∙ l .inv .4)
+    let l = c .before .before .before .before .before .loop in
+    let few = c .before .before .before .before .before .before .before .before .before .before .before .before .pre in
+    let n = c .before .before .before .before .before .before .before .before .put-head .kept .0 in
+    let turn = atoms-turn (l .out) _ (l .p) (l .x) (c .before .before .before .before .before .before .before .before .before .before .before .before .args .k) (omega arith) (omega arith) (c .before .before .put-leaf .ensures) in
+    (omega arith, omega arith, omega arith, c .before .before .put-leaf .kept .0 ∙ l .inv .3, turn ∙ l .inv .4)
 
 same-length : tie.Need-same-length Inv-loop μ-loop
 same-length c = c .before .loop .inv .3 ∙ c .before .before .before .before .put-head .kept .0
@@ -76,9 +69,7 @@ write-tuple-spec =
     put-head-requires
     add-p
     loop-holds
-    put-head-requires-2
-    add-put-u32
-    put-u32-requires
+    put-leaf-requires
     add-p-2
     add-x
     loop-less
