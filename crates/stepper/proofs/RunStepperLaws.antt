@@ -23,7 +23,8 @@ use Rattle.rules.proofs.RunLaws.{run-reached}
 use Rattle.rules.proofs.SoundConfigLaws.{sound-steps}
 use Rattle.rules.proofs.StoreLaws.{word-limit}
 use Rattle.run.proofs.RanLaws.{run-answers, run-stays}
-use Rattle.stepper.specs.RunStepper.{configBytes, runStepper, steppedTo, stepperBy, stepperRows, steps}
+use Rattle.stepping.specs.State.{configBytes}
+use Rattle.stepper.specs.RunStepper.{runStepper, steppedTo, stepperBy, stepperRows, steps}
 use Rattle.stepper.specs.StepperRan.{StepperRan}
 
 -- NUMBER AND REFUSAL

@@ -31,8 +31,7 @@ use Rattle.place.proofs.ProgramEditLaws.{assign-gone, assign-literal, loop-empt
 use Rattle.place.proofs.WholeLaws.{encodeProgram-relength, length-programFront}
 use Rattle.stepping.specs.Perform.{Moves, Performed, PlanFits, Ready, edited, spread, stoppedAt, unrolledAt, valued}
 use Rattle.stepping.specs.Plan.{planOf}
-use Rattle.stepper.specs.RunStepper.{configBytes}
-use Rattle.stepping.specs.State.{Stands}
+use Rattle.stepping.specs.State.{Stands, configBytes}
 use Rattle.stepping.specs.declared.Plan.{Plan}
 use Rattle.stepping.proofs.EditedLaws.{unrolled-behind}
 use Rattle.stepping.proofs.PlanLaws.{Planned, plannedFinished, plannedLiteral, plannedOver, plannedRemove, plannedStop, plannedStore, plannedUnroll, planned-block}
