@@ -4,8 +4,8 @@ pub mod value;
 ghost use mathlib.Core.Path.{_≡_};
 ghost use Prim.Native.Nat.{_+_, _<_, _^_};
 ghost use Rattle.run.specs.Represents.{answered, asOutcome, asRunAnswer};
-ghost use Rattle.run.specs.RunAnswer.{outcomeNumber, refusal};
-ghost use Rattle.run.specs.Tally.{advanced, isSpent, started};
+ghost use Rattle.run.specs.RunAnswer.{outcomeNumber, refusal, roomReads};
+ghost use Rattle.run.specs.Tally.{advanced, endsWith, isSpent, started};
 
 pub enum Outcome {
     Finished,
@@ -59,6 +59,30 @@ impl Tally {
         ensures { λ r. ⌜ r ≡ isSpent self ⌝ }
     {
         self.left == 0
+    }
+}
+
+// What a state reads whose next state has `next` bytes. Spent says that the step can be made; the budget has not been looked at.
+pub fn room_outcome(next: usize, room: usize) -> Outcome
+    ensures { λ r. ⌜ asOutcome r ≡ roomReads next room ⌝ }
+{
+    if room < next {
+        Outcome::NoRoom
+    } else {
+        Outcome::Spent
+    }
+}
+
+// Whether a run ends here, by the outcome that its state reads.
+pub fn ends(outcome: Outcome, tally: Tally) -> bool
+    ensures { λ r. ⌜ r ≡ endsWith outcome tally ⌝ }
+{
+    match outcome {
+        Outcome::Finished => true,
+        Outcome::Over => true,
+        Outcome::NoRoom => true,
+        Outcome::Spent => tally.spent(),
+        Outcome::Refused => true,
     }
 }
 
