@@ -1,1 +1,2 @@
 pub mod RunStepperLaws
+pub mod RunningLaws
