@@ -14,6 +14,7 @@ use Rattle.record.proofs.AnswerLaws.{length-padded}
 use Rattle.record.proofs.HoldingLaws.{padded-program, program-size}
 use Rattle.record.proofs.PaddedLaws.{cleared-padded}
 use Rattle.rules.specs.Rules.{at}
+use Rattle.rules.specs.Run.{Ran}
 use Rattle.rules.specs.Step.{step}
 use Rattle.rules.specs.Store.{fitsWord}
 use Rattle.rules.specs.Syntax.{Block, Config, finished, next, over}
@@ -22,6 +23,7 @@ use Rattle.run.specs.declared.RunEnd.{RunEnd}
 use Rattle.run.specs.declared.Tally.{Tally}
 use Rattle.run.specs.RanFrom.{FurtherIn}
 use Rattle.run.specs.Represents.{answered, asOutcome, asRunAnswer}
+use Rattle.run.specs.RunAnswer.{accepted}
 use Rattle.run.specs.Tally.{advanced, endsWith, started}
 use Rattle.run.proofs.GoingLaws.{Going, going-answers, going-ends, going-further, going-on, going-start, reads, reads-finished, reads-next, reads-over}
 use Rattle.stepping.specs.Perform.{Moves, Performed, Ready}
@@ -110,3 +112,64 @@ module _ {k : ℕ} {P : Block} {s l : List ℕ} {used : ℕ} (h : Stands k (at P
   further-ready q e g =
       let m = subst (λ (p : Plan). Moves (p .rule) × (used + p .up ≤ length l + p .down)) (sym e) (further-by (planOf P s) ((planOf P s) .rule) (plan-tells k P s) g) in
       record { stands = h; plans = e; moves = m .0; fits = m .1 }
+
+-- BETWEEN TWO STEPS of the run from c₀: a configuration stands in the buffer and the store, and from it the run goes on
+
+pub record Between (k : ℕ) (c₀ : Config) (room budget : ℕ) (t : Tally) (buf : List ℕ) (used : ℕ) (store : List ℕ) : Type 0 where
+  pub block : Block
+  pub stands : Stands k (at block store) buf used
+  pub going : Going (step fitsWord) (configBytes k) room budget c₀ t (at block store)
+
+pub between-start : {k : ℕ} {P : Block} {s l : List ℕ} {used : ℕ} → Stands k (at P s) l used → (room budget : ℕ) (t : Tally) → t ≡ started budget
+    → Between k (at P s) room budget t l used s
+between-start {k} {P} {s} {l} {used} h room budget t e =
+    subst (λ (q : Tally). Between k (at P s) room budget q l used s) (sym e)
+    (record { block = P; stands = h; going = going-start (step fitsWord) (configBytes k) room budget (at P s) })
+
+-- what the code asks before it looks at the outcome
+pub between-sums : {k : ℕ} {c₀ : Config} {room budget : ℕ} {t : Tally} {l s : List ℕ} {used : ℕ} (b : Between k c₀ room budget t l used s)
+    → (p : Plan) → p ≡ planOf (b .block) s → (used ≤ 16384) × (p .up ≤ used) × (p .down ≤ used)
+between-sums b p e =
+    let m = plan-sums (b .stands) p e in
+    (omega (arith, b .stands .holds .within, b .stands .short), m .0, m .1)
+
+-- a turn: the plan, and the outcome that the code reads from it
+module _ {k : ℕ} {c₀ : Config} {room budget : ℕ} {t : Tally} {l s : List ℕ} {used : ℕ} (b : Between k c₀ room budget t l used s) (long : length l ≡ room)
+    (p : Plan) (plans : p ≡ planOf (b .block) s) (o : Outcome) (read : asOutcome o ≡ planReads p (p .rule) used room) where
+  abbrev now : Config
+  now = at (b .block) s
+
+  is-read : asOutcome o ≡ reads (step fitsWord) (configBytes k) room now
+  is-read = read ∙ plan-reads (b .stands) p room plans
+
+  -- it goes on
+  on : endsWith o t ≡ false → (0 < t .left) × FurtherIn (step fitsWord) (configBytes k) room now
+  on e = going-further (step fitsWord) (configBytes k) room now t o is-read e
+
+  pub between-left : endsWith o t ≡ false → (0 < t .left) × (t .steps + t .left ≡ budget)
+  between-left e = (on e .0, b .going .total)
+
+  pub between-ready : endsWith o t ≡ false → Ready k (b .block) l used s p
+  between-ready e = further-ready (b .stands) p plans (subst (λ (n : ℕ). FurtherIn (step fitsWord) (configBytes k) n now) (sym long) (on e .1))
+
+  pub between-on : endsWith o t ≡ false → (l₁ s₁ : List ℕ) (used₁ : ℕ) → Performed k now (length l) l₁ s₁ used₁ → length l₁ ≡ length l → (t₁ : Tally) → t₁ ≡ advanced t
+      → Between k c₀ room budget t₁ l₁ used₁ s₁
+  between-on e l₁ s₁ used₁ q kept t₁ et =
+      let d : Config = q .after in
+      let fits : length (configBytes k d) ≤ room = omega (arith, q .size, q .stands .holds .within) in
+      let g : Going (step fitsWord) (configBytes k) room budget c₀ (advanced t) d =
+      going-on (step fitsWord) (configBytes k) room budget c₀ t now d (b .going) (q .steps) fits (on e .0) in
+      subst (λ (y : Tally). Between k c₀ room budget y l₁ used₁ s₁) (sym et)
+      (subst (λ (y : List ℕ). Between k c₀ room budget (advanced t) l₁ used₁ y) (sym (q .values)) (record { block = d .block; stands = q .stands; going = g }))
+
+  -- it ends
+  pub between-ends : endsWith o t ≡ true → (a : RunEnd) → asRunAnswer a ≡ answered o t used → Gives a l s (steppedTo k room budget (steps k room budget c₀))
+  unfolding steppedTo
+  between-ends e a ea =
+      let r = steps k room budget c₀ in
+      let left : r .state ≡ now = ap (λ (q : Ran Config). q .state) (going-ends (step fitsWord) (configBytes k) room budget c₀ t now o (b .going) is-read e) in
+      let size : used ≡ length (configBytes k (r .state)) = program-size (b .stands .holds) ∙ ap (λ (c : Config). length (configBytes k c)) (sym left) in (
+        ea ∙ going-answers (step fitsWord) (configBytes k) room budget c₀ t now o used (b .going) is-read e ∙ ap (accepted budget r) size,
+        b .stands .clear ∙ ap (λ (n : ℕ). padded n (configBytes k now)) long ∙ ap (λ (c : Config). padded room (configBytes k c)) (sym left),
+        ap (λ (c : Config). c .store) (sym left),
+      )
