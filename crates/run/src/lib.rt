@@ -3,7 +3,7 @@ pub mod value;
 
 ghost use mathlib.Core.Path.{_≡_};
 ghost use Prim.Native.Nat.{_+_, _<_, _^_};
-ghost use Rattle.run.specs.Represents.{answered, asOutcome, asRunAnswer};
+ghost use Rattle.run.specs.Represents.{answered, asOutcome, asRunAnswer, inNumbers};
 ghost use Rattle.run.specs.RunAnswer.{outcomeNumber, refusal, roomReads};
 ghost use Rattle.run.specs.Tally.{advanced, endsWith, isSpent, started};
 
@@ -93,6 +93,28 @@ pub struct RunEnd {
     pub steps: u32,
     pub left: u32,
     pub used: u32,
+}
+
+// The same as it crosses the C boundary.
+#[repr(C)]
+pub struct RunNumbers {
+    pub number: u32,
+    pub outcome: u32,
+    pub steps: u32,
+    pub left: u32,
+    pub used: u32,
+}
+
+pub fn in_numbers(end: RunEnd) -> RunNumbers
+    ensures { λ r. ⌜ r ≡ inNumbers (asRunAnswer end) ⌝ }
+{
+    RunNumbers {
+        number: end.number,
+        outcome: outcome_number(end.outcome),
+        steps: end.steps,
+        left: end.left,
+        used: end.used,
+    }
 }
 
 // A refused run hands nothing back but its number.

@@ -81,7 +81,7 @@ module _ {k : ℕ} {P : Block} {buf : List ℕ} {used : ℕ} (h : ProgramIn k P 
   abbrev ran : Ran Config
   ran = steps k (length buf) budget c₀
 
-  stepper-is : runStepper buf used store budget ≡ steppedTo k (length buf) budget ran
+  pub stepper-is : runStepper buf used store budget ≡ steppedTo k (length buf) budget ran
   unfolding runStepper stepperBy
   stepper-is =
       ap (λ (m : ℕ). stepperBy m buf used store budget) (stepper-passes h l store e)

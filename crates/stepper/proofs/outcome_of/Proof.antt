@@ -1,82 +1,63 @@
+-- Each arm knows its rule, and there the definition computes.
 use borrow.Author.Needs.{needs}
 use Rattle.stepper.proofs.outcome_of.Statement.{statement}
 use Rattle.stepper.proofs.outcome_of.Tie as tie
-use Rattle.stepper.proofs.outcome_of.Reads as reads
-use Rattle.stepper.proofs.outcome_of.Lts as lts
-use Rattle.run.proofs.room_outcome.Reads as room-outcome-reads
 use Rattle.stepper.specs.Running.{planReads}
 
--- src/lib.rt:24:37
 add-room-outcome : tie.Need-add-room-outcome
 add-room-outcome c = search needs
 
--- src/lib.rt:24:37
 sub-room-outcome : tie.Need-sub-room-outcome
 sub-room-outcome c = search needs
 
--- src/lib.rt:24:9
 room-outcome-requires : tie.Need-room-outcome-requires
 room-outcome-requires c κs = search needs
 
--- src/lib.rt:27:27
 enum-told : tie.Need-enum-told
 enum-told c = search needs
 
--- src/lib.rt:28:23
 enum-told-2 : tie.Need-enum-told-2
 enum-told-2 c = search needs
 
--- src/lib.rt:29:24
 enum-told-3 : tie.Need-enum-told-3
 enum-told-3 c = search needs
 
--- src/lib.rt:30:26
 enum-told-4 : tie.Need-enum-told-4
 enum-told-4 c = search needs
 
--- src/lib.rt:31:25
 enum-told-5 : tie.Need-enum-told-5
 enum-told-5 c = search needs
 
--- src/lib.rt:32:23
 enum-told-6 : tie.Need-enum-told-6
 enum-told-6 c = search needs
 
--- src/lib.rt:33:25
 enum-told-7 : tie.Need-enum-told-7
 enum-told-7 c = search needs
 
--- src/lib.rt:20:1
 returns : tie.Need-returns
 unfolding planReads
 returns c = rw (c .enum-told .given .1)
 
--- src/lib.rt:20:1
 returns-2 : tie.Need-returns-2
 unfolding planReads
 returns-2 c = rw (c .enum-told2 .given .1)
 
--- src/lib.rt:20:1
 returns-3 : tie.Need-returns-3
 unfolding planReads
 returns-3 c = rw (c .enum-told3 .given .1) (c .before .before .room-outcome .ensures)
 
--- src/lib.rt:20:1
 returns-4 : tie.Need-returns-4
 unfolding planReads
 returns-4 c = rw (c .enum-told4 .given .1) (c .before .before .room-outcome .ensures)
 
--- src/lib.rt:20:1
 returns-5 : tie.Need-returns-5
 unfolding planReads
 returns-5 c = rw (c .enum-told5 .given .1) (c .before .before .room-outcome .ensures)
 
--- src/lib.rt:20:1
 returns-6 : tie.Need-returns-6
 unfolding planReads
 returns-6 c = rw (c .enum-told6 .given .1) (c .before .before .room-outcome .ensures)
 
--- src/lib.rt:20:1
 returns-7 : tie.Need-returns-7
 unfolding planReads
 returns-7 c = rw (c .enum-told7 .given .1) (c .before .before .room-outcome .ensures)

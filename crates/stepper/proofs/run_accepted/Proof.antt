@@ -1,15 +1,6 @@
+-- Between two steps a configuration stands, and what is left to run from it comes to the whole run.
 use Rattle.stepper.proofs.run_accepted.Statement.{statement}
 use Rattle.stepper.proofs.run_accepted.Tie as tie
-use Rattle.stepper.proofs.run_accepted.Reads as reads
-use Rattle.stepper.proofs.run_accepted.Lts as lts
-use Rattle.buffer.proofs.zero.Reads as zero-reads
-use Rattle.run.proofs.Tally.advance.Reads as advance-reads
-use Rattle.run.proofs.Tally.start.Reads as start-reads
-use Rattle.run.proofs.answer.Reads as answer-reads
-use Rattle.run.proofs.ends.Reads as ends-reads
-use Rattle.stepper.proofs.outcome_of.Reads as outcome-of-reads
-use Rattle.stepping.proofs.look.look.Reads as look-reads
-use Rattle.stepping.proofs.perform.perform.Reads as perform-reads
 use borrow.Author.Needs.{needs}
 use mathlib.Core.Path.{refl, sym, _∙_, _≡_}
 use Prim.Native.Nat.{ℕ}
@@ -28,64 +19,52 @@ Inv-loop buf₀ used store₀ budget room size₀ tally₀ buf store size tally 
 abbrev μ-loop : tie.MeasureT-loop
 μ-loop buf₀ used store₀ budget room size₀ tally₀ buf store size tally = tally .left
 
--- src/lib.rt:44:29
 sub-zero : tie.Need-sub-zero Inv-loop μ-loop
 sub-zero c =
     let h = c .before .before .before .pre .1 .1 in
     omega (arith, h .holds .within)
 
--- src/lib.rt:44:5
 zero-requires : tie.Need-zero-requires Inv-loop μ-loop
 zero-requires c κs =
     let h = c .before .before .before .pre .1 .1 in
     omega (arith, h .holds .within)
 
--- src/lib.rt:46:9
 start-requires : tie.Need-start-requires Inv-loop μ-loop
 start-requires c κs = search needs
 
--- src/lib.rt:47:5
 loop-holds : tie.Need-loop-holds Inv-loop μ-loop
 loop-holds c = ((λ k P h. between-start h _ _ _ (c .start .ensures)), (c .before .before .before .zero .kept .0, refl))
 
--- src/lib.rt:48:13
 look-requires : tie.Need-look-requires Inv-loop μ-loop
 look-requires c κs =
     let h = c .before .before .before .before .before .before .before .before .before .before .pre in
     let b = c .before .before .loop .inv .0 (h .0) (h .1 .0) (accepted-stands (h .1 .1) _ (c .before .before .before .before .before .before .zero .ensures)) in
     (h .0, (b .block, (b .stands .holds, (b .stands .short, b .stands .count))))
 
--- src/lib.rt:49:13
 outcome-of-requires : tie.Need-outcome-of-requires Inv-loop μ-loop
 outcome-of-requires c κs =
     let h = c .before .before .before .before .before .before .before .before .before .before .before .pre in
     let b = c .before .before .before .loop .inv .0 (h .0) (h .1 .0) (accepted-stands (h .1 .1) _ (c .before .before .before .before .before .before .before .zero .ensures)) in
     between-sums b (c .look .result) (c .look .ensures (h .0) (b .block) (b .stands .holds) (b .stands .count))
 
--- src/lib.rt:50:12
 ends-requires : tie.Need-ends-requires Inv-loop μ-loop
 ends-requires c κs = search needs
 
--- src/lib.rt:51:48
 cast-answer : tie.Need-cast-answer Inv-loop μ-loop
 cast-answer c =
     let h = c .before .before .before .before .before .before .before .before .before .before .before .before .before .before .pre in
     let b = c .before .before .before .before .before .before .loop .inv .0 (h .0) (h .1 .0) (accepted-stands (h .1 .1) _ (c .before .before .before .before .before .before .before .before .before .before .zero .ensures)) in
     omega (arith, b .stands .holds .within, b .stands .short)
 
--- src/lib.rt:51:13
 answer-requires : tie.Need-answer-requires Inv-loop μ-loop
 answer-requires c κs = search needs
 
--- src/lib.rt:51:13
 same-length : tie.Need-same-length Inv-loop μ-loop
 same-length c = c .before .before .before .before .before .before .before .loop .inv .1 .0
 
--- src/lib.rt:51:13
 same-length-2 : tie.Need-same-length-2 Inv-loop μ-loop
 same-length-2 c = c .before .before .before .before .before .before .before .loop .inv .1 .1
 
--- src/lib.rt:51:13
 returns : tie.Need-returns Inv-loop μ-loop
 returns c =
     λ k P h.
@@ -93,14 +72,12 @@ returns c =
     between-ends b (c .before .before .before .before .before .before .before .loop .inv .1 .0) (c .before .before .before .before .look .result) (c .before .before .before .before .look .ensures k (b .block) (b .stands .holds) (b .stands .count)) (c .before .before .before .outcome-of .result) (c .before .before .before .outcome-of .ensures)
     (sym (c .before .before .ends .ensures) ∙ c .before .if1 .taken) (c .answer .result) (c .answer .ensures)
 
--- src/lib.rt:53:9
 perform-requires : tie.Need-perform-requires Inv-loop μ-loop
 perform-requires c κs =
     let h = c .before .before .before .before .before .before .before .before .before .before .before .before .before .before .before .before .pre in
     let b = c .before .before .before .before .before .before .before .before .loop .inv .0 (h .0) (h .1 .0) (accepted-stands (h .1 .1) _ (c .before .before .before .before .before .before .before .before .before .before .before .before .zero .ensures)) in
     (h .0, (b .block, between-ready b (c .before .before .before .before .before .before .before .before .loop .inv .1 .0) (c .before .before .before .before .before .look .result) (c .before .before .before .before .before .look .ensures (h .0) (b .block) (b .stands .holds) (b .stands .count)) (c .before .before .before .before .outcome-of .result) (c .before .before .before .before .outcome-of .ensures) (sym (c .before .before .before .ends .ensures) ∙ c .before .before .if1 .left)))
 
--- src/lib.rt:54:9
 advance-requires : tie.Need-advance-requires Inv-loop μ-loop
 advance-requires c κs =
     let h = c .before .before .before .before .before .before .before .before .before .before .before .before .before .before .before .before .before .before .before .before .before .pre in
@@ -108,7 +85,6 @@ advance-requires c κs =
     let m = between-left b (c .before .before .before .before .before .before .before .before .before .before .before .before .before .loop .inv .1 .0) (c .before .before .before .before .before .before .before .before .before .before .look .result) (c .before .before .before .before .before .before .before .before .before .before .look .ensures (h .0) (b .block) (b .stands .holds) (b .stands .count)) (c .before .before .before .before .before .before .before .before .before .outcome-of .result) (c .before .before .before .before .before .before .before .before .before .outcome-of .ensures) (sym (c .before .before .before .before .before .before .before .before .ends .ensures) ∙ c .before .before .before .before .before .before .before .if1 .left) in
     (m .0, omega (arith, m .1, c .before .before .before .before .before .before .before .before .before .before .before .before .before .before .before .before .before .before .before .before .before .fits .budget))
 
--- src/lib.rt:47:5
 loop-less : tie.Need-loop-less Inv-loop μ-loop
 loop-less c =
     let h = c .before .before .before .before .before .before .before .before .before .before .before .before .before .before .before .before .before .before .before .before .before .before .pre in
@@ -116,7 +92,6 @@ loop-less c =
     let m = between-left b (c .before .before .before .before .before .before .before .before .before .before .before .before .before .before .loop .inv .1 .0) (c .before .before .before .before .before .before .before .before .before .before .before .look .result) (c .before .before .before .before .before .before .before .before .before .before .before .look .ensures (h .0) (b .block) (b .stands .holds) (b .stands .count)) (c .before .before .before .before .before .before .before .before .before .before .outcome-of .result) (c .before .before .before .before .before .before .before .before .before .before .outcome-of .ensures) (sym (c .before .before .before .before .before .before .before .before .before .ends .ensures) ∙ c .before .before .before .before .before .before .before .before .if1 .left) in
     rw (c .advance .ensures) (omega (arith, m .0))
 
--- src/lib.rt:47:5
 loop-again : tie.Need-loop-again Inv-loop μ-loop
 loop-again c = (
   (λ k P h.
