@@ -108,9 +108,10 @@ pub struct RunNumbers {
 pub fn in_numbers(end: RunEnd) -> RunNumbers
     ensures { λ r. ⌜ r ≡ inNumbers (asRunAnswer end) ⌝ }
 {
+    let outcome = end.outcome;
     RunNumbers {
         number: end.number,
-        outcome: outcome_number(end.outcome),
+        outcome: outcome_number(outcome),
         steps: end.steps,
         left: end.left,
         used: end.used,
