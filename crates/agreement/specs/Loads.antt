@@ -15,7 +15,8 @@ use Rattle.rules.specs.Store.{fitsWord}
 use Rattle.rules.specs.Substitution.{stateOf}
 use Rattle.rules.specs.Syntax.{Block, Config, Term, assign, dec, empty, inc, lit, loop, nest, upto, uptoVar, var}
 use Rattle.run.specs.RunAnswer.{runIn}
-use Rattle.stepper.specs.RunStepper.{StepperCall, configBytes, runStepper, steps}
+use Rattle.stepper.specs.RunStepper.{StepperCall, runStepper, steps}
+use Rattle.stepping.specs.State.{configBytes}
 use Rattle.term.specs.Calls.{numerals, resultCall, substituteCall, translateCall}
 
 -- What a run ends in: outcome, steps, and the values shown (the stepper's store; a finished term's numerals).

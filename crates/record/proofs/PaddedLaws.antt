@@ -2,7 +2,8 @@
 use Prim.Native.Nat.{_+_, _-_, ℕ, _≤_}
 use mathlib.Core.Path.{ap, refl, sym, _∙_, _≡_}
 use mathlib.Core.List.{_++_, List, [], append-nil}
-use lib.ListN.{length, length-append}
+use lib.ListN.{drop, length, length-append, length-drop, take, take-append-drop}
+use lib.Seq.{length-take-le}
 use native.Mathlib.Omega.{arith}
 use Rattle.buffer.specs.Slice.{put, zeros}
 use Rattle.buffer.proofs.SliceLaws.{length-zeros, put-put, put-re}
@@ -31,3 +32,13 @@ put-padded l bytes m e h =
     let z : List ℕ = zeros (length l - m) in
     let n : length (bytes ++ z) ≡ length l = length-append bytes z ∙ omega (arith, length-zeros (length l - m)) in
     put-put l bytes z 0 m (omega arith) h ∙ put-whole l (bytes ++ z) n ∙ sym (padded-zeros (length l) m bytes e)
+
+-- a record that stands there already, and zeros written behind it
+pub cleared-padded : (l bytes : List ℕ) (m : ℕ) → take m l ≡ bytes → m ≤ length l → put l m (zeros (length l - m)) ≡ padded (length l) bytes
+cleared-padded l bytes m e h =
+    let z : List ℕ = zeros (length l - m) in
+    let n : length (take m l) ≡ m = length-take-le m l h in
+    let whole : l ≡ take m l ++ (drop m l ++ []) = sym (ap (λ (q : List ℕ). take m l ++ q) (append-nil (drop m l)) ∙ take-append-drop m l) in
+    let rest : length (drop m l) ≡ length z = length-drop m l ∙ sym (length-zeros (length l - m)) in
+    put-re l (take m l) (drop m l) [] z m whole n rest ∙ ap (λ (q : List ℕ). take m l ++ q) (append-nil z) ∙ ap (λ (q : List ℕ). q ++ z) e
+    ∙ sym (padded-zeros (length l) m bytes (ap length (sym e) ∙ n))

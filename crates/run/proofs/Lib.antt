@@ -1,3 +1,4 @@
 pub mod RanLaws
 pub mod TallyLaws
 pub mod RepresentsLaws
+pub mod GoingLaws

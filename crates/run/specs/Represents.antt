@@ -4,8 +4,9 @@ use Rattle.rules.specs.Run as rules
 use Rattle.run.specs.declared.Outcome.{Outcome}
 use Rattle.run.specs.declared.Outcome.the-variants.{Finished, NoRoom, Over, Refused, Spent}
 use Rattle.run.specs.declared.RunEnd.{RunEnd}
+use Rattle.run.specs.declared.RunNumbers.{RunNumbers}
 use Rattle.run.specs.declared.Tally.{Tally}
-use Rattle.run.specs.RunAnswer.{RunAnswer}
+use Rattle.run.specs.RunAnswer.{RunAnswer, outcomeNumber}
 
 -- Each case of the code's enum, with 01's word for the outcome.
 abbrev pub asOutcome : Outcome → rules.Outcome
@@ -18,6 +19,10 @@ asOutcome Refused = rules.refused  -- refused: the call was not accepted
 -- How a run ended, field by field.
 abbrev pub asRunAnswer : RunEnd → RunAnswer
 asRunAnswer r = record { number = r .number; outcome = asOutcome (r .outcome); steps = r .steps; left = r .left; used = r .used }
+
+-- How a run ended, in numbers alone: the outcome is its number.
+abbrev pub inNumbers : RunAnswer → RunNumbers
+inNumbers a = record { number = a .number; outcome = outcomeNumber (a .outcome); steps = a .steps; left = a .left; used = a .used }
 
 -- A run that was made, stopped by an outcome, with its tally and the new used length.
 abbrev pub answered : Outcome → Tally → ℕ → RunAnswer

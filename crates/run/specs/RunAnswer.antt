@@ -1,6 +1,6 @@
 -- The answer of a run, and a run in a buffer: what both engines share (01 "Run orders").
 use Prim.Native.Nat.{_-_, ℕ}
-use mathlib.Core.Bool.{Bool}
+use mathlib.Core.Bool.{Bool, cond}
 use mathlib.Core.List.{List}
 use lib.Dec.{leb}
 use lib.ListN.{length}
@@ -34,6 +34,10 @@ accepted budget r used = record { number = 0; outcome = r .outcome; steps = r .c
 -- Room: a state, of which `bytes` gives the record, is not longer than the buffer.
 unfoldable pub roomFor : {A : Type 0} → (A → List ℕ) → ℕ → A → Bool
 roomFor bytes room a = leb (length (bytes a)) room
+
+-- The outcome that a state reads in a buffer of `room` bytes where its next state has n bytes.
+unfoldable pub roomReads : ℕ → ℕ → Outcome
+roomReads n room = cond (leb n room) spent noRoom
 
 -- The run of a machine in a buffer of `room` bytes.
 abbrev pub runIn : {A : Type 0} → (A → Answer A) → (A → List ℕ) → ℕ → ℕ → A → Ran A

@@ -3,9 +3,9 @@ pub mod value;
 
 ghost use mathlib.Core.Path.{_≡_};
 ghost use Prim.Native.Nat.{_+_, _<_, _^_};
-ghost use Rattle.run.specs.Represents.{answered, asOutcome, asRunAnswer};
-ghost use Rattle.run.specs.RunAnswer.{outcomeNumber, refusal};
-ghost use Rattle.run.specs.Tally.{advanced, isSpent, started};
+ghost use Rattle.run.specs.Represents.{answered, asOutcome, asRunAnswer, inNumbers};
+ghost use Rattle.run.specs.RunAnswer.{outcomeNumber, refusal, roomReads};
+ghost use Rattle.run.specs.Tally.{advanced, endsWith, isSpent, started};
 
 pub enum Outcome {
     Finished,
@@ -62,6 +62,30 @@ impl Tally {
     }
 }
 
+// What a state reads whose next state has `next` bytes. Spent says that the step can be made; the budget has not been looked at.
+pub fn room_outcome(next: usize, room: usize) -> Outcome
+    ensures { λ r. ⌜ asOutcome r ≡ roomReads next room ⌝ }
+{
+    if room < next {
+        Outcome::NoRoom
+    } else {
+        Outcome::Spent
+    }
+}
+
+// Whether a run ends here, by the outcome that its state reads.
+pub fn ends(outcome: Outcome, tally: Tally) -> bool
+    ensures { λ r. ⌜ r ≡ endsWith outcome tally ⌝ }
+{
+    match outcome {
+        Outcome::Finished => true,
+        Outcome::Over => true,
+        Outcome::NoRoom => true,
+        Outcome::Spent => tally.spent(),
+        Outcome::Refused => true,
+    }
+}
+
 // How a run ended. `number` is that of the refusal, 0 for a run that was made; `used` is the new used length.
 pub struct RunEnd {
     pub number: u32,
@@ -69,6 +93,29 @@ pub struct RunEnd {
     pub steps: u32,
     pub left: u32,
     pub used: u32,
+}
+
+// The same as it crosses the C boundary.
+#[repr(C)]
+pub struct RunNumbers {
+    pub number: u32,
+    pub outcome: u32,
+    pub steps: u32,
+    pub left: u32,
+    pub used: u32,
+}
+
+pub fn in_numbers(end: RunEnd) -> RunNumbers
+    ensures { λ r. ⌜ r ≡ inNumbers (asRunAnswer end) ⌝ }
+{
+    let outcome = end.outcome;
+    RunNumbers {
+        number: end.number,
+        outcome: outcome_number(outcome),
+        steps: end.steps,
+        left: end.left,
+        used: end.used,
+    }
 }
 
 // A refused run hands nothing back but its number.

@@ -1,1 +1,3 @@
 pub mod RunStepperLaws
+pub mod RunningLaws
+pub mod CallLaws

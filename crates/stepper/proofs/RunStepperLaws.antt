@@ -23,7 +23,8 @@ use Rattle.rules.proofs.RunLaws.{run-reached}
 use Rattle.rules.proofs.SoundConfigLaws.{sound-steps}
 use Rattle.rules.proofs.StoreLaws.{word-limit}
 use Rattle.run.proofs.RanLaws.{run-answers, run-stays}
-use Rattle.stepper.specs.RunStepper.{configBytes, runStepper, steppedTo, stepperBy, stepperRows, steps}
+use Rattle.stepping.specs.State.{configBytes}
+use Rattle.stepper.specs.RunStepper.{runStepper, steppedTo, stepperBy, stepperRows, steps}
 use Rattle.stepper.specs.StepperRan.{StepperRan}
 
 -- NUMBER AND REFUSAL
@@ -80,7 +81,7 @@ module _ {k : ℕ} {P : Block} {buf : List ℕ} {used : ℕ} (h : ProgramIn k P 
   abbrev ran : Ran Config
   ran = steps k (length buf) budget c₀
 
-  stepper-is : runStepper buf used store budget ≡ steppedTo k (length buf) budget ran
+  pub stepper-is : runStepper buf used store budget ≡ steppedTo k (length buf) budget ran
   unfolding runStepper stepperBy
   stepper-is =
       ap (λ (m : ℕ). stepperBy m buf used store budget) (stepper-passes h l store e)

@@ -1,2 +1,3 @@
 pub mod RunStepper
 pub mod StepperRan
+pub mod Running

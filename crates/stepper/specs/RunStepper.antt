@@ -3,23 +3,19 @@ use Prim.Native.Nat.{suc, zero, ℕ}
 use mathlib.Core.List.{List, [], _∷_}
 use lib.ListN.{length}
 use Rattle.record.specs.Answers.{padded}
-use Rattle.record.specs.Header.{encodeProgram}
 use Rattle.record.specs.Rows.{Row, badBuffer, badStore, firstRow, kOf, programOf, programRows, row}
 use Rattle.rules.specs.Run.{Ran}
 use Rattle.rules.specs.Step.{step}
 use Rattle.rules.specs.Store.{fitsWord}
 use Rattle.rules.specs.Syntax.{Config}
 use Rattle.run.specs.RunAnswer.{RunAnswer, accepted, refusal, runIn}
+use Rattle.stepping.specs.State.{configBytes}
 
 -- The answer, and the buffer and the store afterwards.
 pub record StepperCall : Type 0 where
   pub answer : RunAnswer
   pub buf : List ℕ
   pub store : List ℕ
-
--- The record of a configuration of k variables: its program's. The store is lent beside it.
-abbrev pub configBytes : ℕ → Config → List ℕ
-configBytes k c = encodeProgram k (c .block)
 
 -- The configuration that is lent.
 abbrev pub configOf : List ℕ → ℕ → List ℕ → Config

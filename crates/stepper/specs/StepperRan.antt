@@ -11,7 +11,8 @@ use Rattle.rules.specs.Step.{step}
 use Rattle.rules.specs.Store.{fitsWord}
 use Rattle.rules.specs.Syntax.{Config, empty}
 use Rattle.run.specs.RanFrom.{RanFrom}
-use Rattle.stepper.specs.RunStepper.{StepperCall, configBytes}
+use Rattle.stepping.specs.State.{configBytes}
+use Rattle.stepper.specs.RunStepper.{StepperCall}
 
 -- From the configuration c₀ of k variables, in a buffer of `room` bytes.
 pub record StepperRan (k : ℕ) (c₀ : Config) (room budget : ℕ) (r : StepperCall) : Type 0 where

@@ -31,8 +31,7 @@ use Rattle.place.proofs.ProgramEditLaws.{assign-gone, assign-literal, loop-empt
 use Rattle.place.proofs.WholeLaws.{encodeProgram-relength, length-programFront}
 use Rattle.stepping.specs.Perform.{Moves, Performed, PlanFits, Ready, edited, spread, stoppedAt, unrolledAt, valued}
 use Rattle.stepping.specs.Plan.{planOf}
-use Rattle.stepper.specs.RunStepper.{configBytes}
-use Rattle.stepping.specs.State.{Stands}
+use Rattle.stepping.specs.State.{Stands, configBytes}
 use Rattle.stepping.specs.declared.Plan.{Plan}
 use Rattle.stepping.proofs.EditedLaws.{unrolled-behind}
 use Rattle.stepping.proofs.PlanLaws.{Planned, plannedFinished, plannedLiteral, plannedOver, plannedRemove, plannedStop, plannedStore, plannedUnroll, planned-block}
@@ -254,6 +253,32 @@ module _ {k : ℕ} {P : Block} {s : List ℕ} {l : List ℕ} {used : ℕ} (h : S
 
   plan-fits : (q : Plan) → q ≡ planOf P s → used + q .up ≤ length l + q .down → PlanFits q used (length l) (length s)
   plan-fits q e fits = asks-by (spot P) q (subst (λ (y : Plan). Planned s (length (path P)) place (spot P) y) (sym e) planned) refl fits
+
+  -- BEFORE THE ROOM IS KNOWN: what comes and what goes is no longer than the record
+
+  sums-by : (b : Block) (q : Plan) → Planned s (length (path P)) place b q → spot P ≡ b → (q .up ≤ used) × (q .down ≤ used)
+  sums-by _ _ plannedFinished is = (omega arith, omega arith)
+  sums-by _ _ plannedOver is = (omega arith, omega arith)
+  sums-by _ _ (plannedStore {x} {v} {e} {r} st) is =
+      let z : blockSize (assign x e r) ≡ 16 + blockSize r = blockSize-assign x e r in
+      let room : place + blockSize (assign x e r) ≤ used = room₀ (assign x e r) is in
+      (omega arith, omega arith)
+  sums-by _ _ (plannedLiteral {x} {v} {e} {r} st) is = (omega arith, omega arith)
+  sums-by _ _ (plannedRemove {r} st) is =
+      let z : blockSize (nest empty r) ≡ 4 + blockSize empty + blockSize r = blockSize-nest empty r in
+      let room : place + blockSize (nest empty r) ≤ used = room₀ (nest empty r) is in
+      (omega arith, omega arith)
+  sums-by _ _ (plannedStop {x} {n} {b} {r} st) is =
+      let z : blockSize (loop x n b r) ≡ 20 + blockSize b + blockSize r = blockSize-loop x n b r in
+      let room : place + blockSize (loop x n b r) ≤ used = room₀ (loop x n b r) is in
+      (omega arith, omega arith)
+  sums-by _ _ (plannedUnroll {x} {q} {n} {b} {r} st) is =
+      let z : blockSize (loop x n b r) ≡ 20 + blockSize b + blockSize r = blockSize-loop x n b r in
+      let room : place + blockSize (loop x n b r) ≤ used = room₀ (loop x n b r) is in
+      (omega arith, omega arith)
+
+  pub plan-sums : (q : Plan) → q ≡ planOf P s → (q .up ≤ used) × (q .down ≤ used)
+  plan-sums q e = sums-by (spot P) q (subst (λ (y : Plan). Planned s (length (path P)) place (spot P) y) (sym e) planned) refl
 
 pub ready-fits : {k : ℕ} {P : Block} {s : List ℕ} {l : List ℕ} {used : ℕ} (q : Plan) → Ready k P l used s q → PlanFits q used (length l) (length s)
 ready-fits q h = plan-fits (h .stands) q (h .plans) (h .fits)

@@ -18,8 +18,8 @@ use Rattle.rules.specs.Syntax.{Block, Bound, Config, Expr, assign, dec, empty, 
 use Rattle.place.proofs.PathLaws.{blockSize-plug, plug-spot, spot-is, step-nest-empty, step-spot}
 use Rattle.place.proofs.ProgramBytesLaws.{blockSize-assign, blockSize-empty, blockSize-loop, blockSize-nest}
 use Rattle.record.proofs.HeaderLaws.{length-encodeProgram}
+use Rattle.stepping.specs.State.{configBytes}
 use Rattle.stepping.specs.Plan.{planAssign, planLoop, planOf, planRaise, planSpot}
-use Rattle.stepper.specs.RunStepper.{configBytes}
 use Rattle.stepping.specs.declared.Plan.{Plan}
 use Rattle.stepping.specs.declared.Rule.{Rule}
 use Rattle.stepping.specs.declared.Rule.the-variants.{Finished, Literal, Over, Remove, Stop, Store, Unroll}

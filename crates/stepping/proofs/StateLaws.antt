@@ -25,8 +25,7 @@ use Rattle.rules.proofs.SoundConfigLaws.{sound-step}
 use Rattle.rules.proofs.StoreLaws.{word-limit}
 use Rattle.place.proofs.PathLaws.{blockSize-plug, plug-spot}
 use Rattle.place.proofs.WholeLaws.{encodeProgram-plug, length-programFront, program-used}
-use Rattle.stepper.specs.RunStepper.{configBytes}
-use Rattle.stepping.specs.State.{Stands}
+use Rattle.stepping.specs.State.{Stands, configBytes}
 
 -- A STEP leaves a configuration that stands again, where it fits
 

@@ -14,8 +14,7 @@ use Rattle.place.specs.Heads.{recordHead}
 use Rattle.record.specs.Answers.{padded}
 use Rattle.record.specs.Header.{contentsAt}
 use Rattle.stepping.specs.Plan.{planOf}
-use Rattle.stepper.specs.RunStepper.{configBytes}
-use Rattle.stepping.specs.State.{Stands}
+use Rattle.stepping.specs.State.{Stands, configBytes}
 use Rattle.stepping.specs.declared.Plan.{Plan}
 use Rattle.stepping.specs.declared.Rule.{Rule}
 use Rattle.stepping.specs.declared.Rule.the-variants.{Finished, Over, Store, Literal, Remove, Stop, Unroll}

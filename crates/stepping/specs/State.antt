@@ -10,6 +10,10 @@ use Rattle.rules.specs.Sound.{SmallValues}
 use Rattle.rules.specs.Store.{fitsWord}
 use Rattle.rules.specs.Syntax.{Config}
 
+-- The record of a configuration of k variables: its program's. The store is lent beside it.
+abbrev pub configBytes : ℕ → Config → List ℕ
+configBytes k c = encodeProgram k (c .block)
+
 -- The record of the configuration's program is the first `used` bytes of the buffer, zeros are behind it, and the store has
 -- its k values.
 pub record Stands (k : ℕ) (c : Config) (buf : List ℕ) (used : ℕ) : Type 0 where

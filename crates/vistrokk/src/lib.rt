@@ -3,6 +3,8 @@
 ghost use mathlib.Core.Path.{_≡_};
 ghost use Rattle.record.specs.Answers.{checkProgram, checkTerm};
 ghost use Rattle.checker.specs.Answer.{asChecked};
+ghost use Rattle.run.specs.Represents.{inNumbers};
+ghost use Rattle.stepper.specs.RunStepper.{runStepper};
 ghost use Rattle.weighing.specs.Weigh.{weighCall};
 
 #[no_mangle]
@@ -24,4 +26,16 @@ pub extern "C" fn vistrokk_weigh(gross: u32, tare: u32, store: &mut [u32]) -> u3
     ensures { λ r. ⌜ (r ≡ (weighCall gross tare (now (store .entry))) .number) × (now (store .exit) ≡ (weighCall gross tare (now (store .entry))) .store) ⌝ }
 {
     weighing::weigh(gross, tare, store)
+}
+
+#[no_mangle]
+pub extern "C" fn vistrokk_run_stepper(
+    buf: &mut [u8],
+    used: usize,
+    store: &mut [u32],
+    budget: u32,
+) -> run::RunNumbers
+    ensures { λ r. ⌜ (r ≡ inNumbers ((runStepper (now (buf .entry)) used (now (store .entry)) budget) .answer)) × (now (buf .exit) ≡ (runStepper (now (buf .entry)) used (now (store .entry)) budget) .buf) × (now (store .exit) ≡ (runStepper (now (buf .entry)) used (now (store .entry)) budget) .store) ⌝ }
+{
+    run::in_numbers(stepper::run_stepper(buf, used, store, budget))
 }
