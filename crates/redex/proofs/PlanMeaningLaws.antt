@@ -9,7 +9,7 @@ use Rattle.place.specs.Nesting.{around, plug}
 use Rattle.place.specs.TermPath.{Redex, redex, redexLetAll, redexLetOne, redexRec, termPath, terms}
 use Rattle.place.specs.TermView.{simpleKind}
 use Rattle.record.specs.Header.{contentsAt, encodeTerm}
-use Rattle.record.specs.Term.{kindOfTerm, simpleSize, termSize}
+use Rattle.record.specs.Term.{kindOfTerm, termSize}
 use Rattle.rules.specs.Reduction.{onNext, reduce, reduceLetOne, unrollRec, valueOf}
 use Rattle.rules.specs.Store.{fitsWord, minusOne}
 use Rattle.rules.specs.Substitution.{fromStore, only, substitute}

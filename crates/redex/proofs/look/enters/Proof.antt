@@ -4,7 +4,7 @@ use Rattle.redex.proofs.look.enters.Tie as tie
 use Rattle.redex.proofs.look.enters.Reads as reads
 use Rattle.redex.proofs.look.enters.Lts as lts
 use Rattle.buffer.proofs.get_u16.Reads as get-u16-reads
-use mathlib.Core.Path.{_≡_, sym, _∙_}
+use mathlib.Core.Path.{sym, _∙_}
 use native.Mathlib.Omega.{arith}
 use Rattle.place.proofs.TermPathLaws.{enters-kind, enters-tuple, enters-yes}
 

@@ -7,8 +7,7 @@ use Rattle.buffer.proofs.get_u16.Reads as get-u16-reads
 use Rattle.redex.proofs.look.look_let_one.Reads as look-let-one-reads
 use Rattle.redex.proofs.look.look_rec.Reads as look-rec-reads
 use Rattle.redex.proofs.look.open_levels.Reads as open-levels-reads
-use mathlib.Core.Path.{_≡_, sym, _∙_}
-use Prim.Native.Nat.{ℕ, _+_, _*_}
+use mathlib.Core.Path.{sym, _∙_}
 use native.Mathlib.Omega.{arith}
 use Rattle.place.proofs.TermViewLaws.{term-kind, term-room}
 use Rattle.place.proofs.WholeLaws.{term-at}

@@ -7,7 +7,7 @@ use Rattle.buffer.proofs.get_u16.Reads as get-u16-reads
 use Rattle.buffer.proofs.get_u32.Reads as get-u32-reads
 use Rattle.redex.proofs.look.look_succ.Reads as look-succ-reads
 use Rattle.run.proofs.value.minus_one.Reads as minus-one-reads
-use mathlib.Core.Path.{_≡_, sym, ap, _∙_}
+use mathlib.Core.Path.{sym, ap, _∙_}
 use Prim.Native.Nat.{ℕ}
 use native.Mathlib.Omega.{arith}
 use Rattle.redex.specs.Plan.{plan}

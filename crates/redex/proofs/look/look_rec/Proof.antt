@@ -5,8 +5,8 @@ use Rattle.redex.proofs.look.look_rec.Reads as reads
 use Rattle.redex.proofs.look.look_rec.Lts as lts
 use Rattle.buffer.proofs.get_u16.Reads as get-u16-reads
 use Rattle.buffer.proofs.get_u32.Reads as get-u32-reads
-use mathlib.Core.Path.{_≡_, sym, _∙_}
-use Prim.Native.Nat.{ℕ, _+_, _*_, _-_}
+use mathlib.Core.Path.{_≡_}
+use Prim.Native.Nat.{_+_, _*_, _-_}
 use native.Mathlib.Omega.{arith}
 use Rattle.buffer.specs.LittleEndian.{val}
 use Rattle.buffer.specs.Slice.{part}
