@@ -1,16 +1,16 @@
 -- Laws of the plan: what it says of the redex that it is made for, and what that reduces to.
 use Prim.Native.Nat.{ℕ, zero, suc, _*_, _+_}
-use mathlib.Core.Path.{_≡_, _∙_, ap, refl, subst, sym}
+use mathlib.Core.Path.{_≡_, _∙_, ap, refl, sym}
 use mathlib.Core.Bool.{Bool, true, false, cond}
 use mathlib.Core.List.{List, map}
 use lib.ListN.{length}
 use Rattle.rules.specs.Reduction.{onNext, reduce, reduceLetOne, unrollRec, valueOf}
-use Rattle.rules.specs.Store.{fitsWord, minusOne}
+use Rattle.rules.specs.Store.{fitsWord}
 use Rattle.rules.specs.Substitution.{fromStore, only, substitute}
-use Rattle.rules.specs.Syntax.{Answer, Atom, Simple, Term, letAll, letOne, next, num, over, plain, predOf, rec, succOf, tuple}
+use Rattle.rules.specs.Syntax.{Atom, Simple, Term, letAll, letOne, next, num, over, plain, predOf, rec, succOf, tuple}
 use Rattle.record.specs.Term.{simpleSize, termSize}
 use Rattle.place.specs.Nesting.{plug}
-use Rattle.place.specs.TermPath.{Redex, redex, redexLetAll, redexLetOne, redexRec, termPath, terms}
+use Rattle.place.specs.TermPath.{Redex, redex, termPath, terms}
 use Rattle.place.proofs.TermPathLaws.{plug-redex, redex-kind, reduce-letAll-tuple, reduce-plug}
 use Rattle.redex.specs.Plan.{plan, planLetOne, planRaise, planRec, planRedex}
 use Rattle.redex.specs.declared.Plan.{Plan}
