@@ -43,7 +43,7 @@ use Rattle.reducing.specs.State.{Stands}
 use Rattle.redex.specs.Plan.{planOf}
 use Rattle.redex.specs.declared.Plan.{Plan}
 use Rattle.reducing.proofs.EditedLaws.{unrolled-behind}
-use Rattle.reducing.proofs.PlanLaws.{Planned, planned-redex, plannedFinished, plannedLetAll, plannedLetOne, plannedNumeral, plannedOver, plannedStop, plannedUnroll, redex-reduces}
+use Rattle.reducing.proofs.PlanLaws.{Planned, planned-redex, plannedFinished, plannedLetAll, plannedLetOne, plannedNumeral, plannedOver, plannedStop, plannedUnroll, redex-reduces, size-plain, termSize-plain}
 use Rattle.reducing.proofs.StateLaws.{redex-bytes, redex-room, redex-sound, redex-stands, redex-used, stands-after, zeros-behind}
 
 module _ {k : ℕ} {t : Term} {l : List ℕ} {used : ℕ} (h : Stands k t l used) where
@@ -140,18 +140,18 @@ module _ {k : ℕ} {t : Term} {l : List ℕ} {used : ℕ} (h : Stands k t l used
 
   letOne-made : (x v : ℕ) (a : Atom) (u : Term) → redex t ≡ letOne x (plain a) u → reduce fitsWord (letOne x (plain a) u) ≡ next (substitute (only x v) u)
       → Made 0 16 (filledAt l place 16 (substitute (only x v) u) used)
-  unfolding filledAt simpleSize over
+  unfolding filledAt over
   letOne-made x v a u is st =
       let u₁ : Term = substitute (only x v) u in
       let t₀ : Term = letOne x (plain a) u in
       let t₁ : Term = letOne x (plain a) u₁ in
       let zu : termSize u ≡ termSize u₁ = sym (termSize-substitute (only x v) u) in
-      let z₀ : termSize t₀ ≡ 16 + termSize u = termSize-letOne x (plain a) u in
-      let z₁ : termSize t₁ ≡ 16 + termSize u₁ = termSize-letOne x (plain a) u₁ in
+      let z₀ : termSize t₀ ≡ 16 + termSize u = termSize-plain x a u in
+      let z₁ : termSize t₁ ≡ 16 + termSize u₁ = termSize-plain x a u₁ in
       let same : termSize t₀ ≡ termSize t₁ = omega arith in
       let m : List ℕ = over t₀ is t₁ same in
       let lm : length m ≡ length l = over-length t₀ is t₁ same in
-      let e : put l (place + 16) (encodeTermRecord u₁) ≡ m = put-letOne-last x (plain a) u u₁ (place + 16) (at₀ t₀ is .here) refl zu in
+      let e : put l (place + 16) (encodeTermRecord u₁) ≡ m = put-letOne-last x (plain a) u u₁ (place + 16) (at₀ t₀ is .here) (ap (λ (n : ℕ). place + (8 + n)) (sym (size-plain a))) zu in
       let order : place + 16 ≤ used = omega (arith, room₀ t₀ is) in
       let fits : used ≤ length m = omega (arith, fits-buf) in
       subst (λ (y : List ℕ). Made 0 16 (removed y place 16 used)) (sym e)
@@ -184,12 +184,12 @@ module _ {k : ℕ} {t : Term} {l : List ℕ} {used : ℕ} (h : Stands k t l used
 
   numeral-made : (x v : ℕ) (s : Simple) (u : Term) → redex t ≡ letOne x s u → simpleSize s ≡ 12 → reduce fitsWord (letOne x s u) ≡ next (letOne x (plain (num v)) u)
       → Made 0 4 (numeralAt l place used v)
-  unfolding numeralAt simpleSize
+  unfolding numeralAt
   numeral-made x v s u is zs st =
       let t₀ : Term = letOne x s u in
       let t₁ : Term = letOne x (plain (num v)) u in
       let z₀ : termSize t₀ ≡ 8 + simpleSize s + termSize u = termSize-letOne x s u in
-      let z₁ : termSize t₁ ≡ 16 + termSize u = termSize-letOne x (plain (num v)) u in
+      let z₁ : termSize t₁ ≡ 16 + termSize u = termSize-plain x (num v) u in
       let read : val (part l place 2) ≡ 4 + termSize t₀ = term-read (at₀ t₀ is) (place + 2) refl .0 in
       let less : 20 + termSize u ≡ val (part l place 2) - 4 = omega arith in
       let order : place + 8 + 4 ≤ used = omega (arith, room₀ t₀ is) in
@@ -230,7 +230,7 @@ module _ {k : ℕ} {t : Term} {l : List ℕ} {used : ℕ} (h : Stands k t l used
 
   unroll-made : (x q : ℕ) (a : Atom) (ys : List Atom) (u : Term) → redex t ≡ rec x a ys u → reduce fitsWord (rec x a ys u) ≡ next (letAll (rec x (num q) ys u) (letOne x (plain (num (suc q))) u))
       → used + (24 + termSize u) ≤ length l → Made (24 + termSize u) 0 (unrolledAt l place k (24 + termSize u) used x (suc q))
-  unfolding spread unrolledAt simpleSize
+  unfolding spread unrolledAt
   unroll-made x q a ys u is st fits =
       let up : ℕ = 24 + termSize u in
       let n : ℕ = up + 8 * k in
@@ -240,7 +240,7 @@ module _ {k : ℕ} {t : Term} {l : List ℕ} {used : ℕ} (h : Stands k t l used
       let b : Term = letOne x (plain (num (suc q))) u in
       let t₁ : Term = letAll (rec x (num q) ys u) b in
       let z₀ : termSize t₀ ≡ 20 + 8 * length ys + termSize u = termSize-rec x a ys u in
-      let y₁ : termSize b ≡ 16 + termSize u = termSize-letOne x (plain (num (suc q))) u in
+      let y₁ : termSize b ≡ 16 + termSize u = termSize-plain x (num (suc q)) u in
       let y₂ : termSize (rec x (num q) ys u) ≡ 20 + 8 * length ys + termSize u = termSize-rec x (num q) ys u in
       let y₃ : termSize t₁ ≡ 8 + termSize (rec x (num q) ys u) + termSize b = termSize-letAll (rec x (num q) ys u) b in
       let order : place + n ≤ used = omega (arith, room₀ t₀ is) in
@@ -264,10 +264,13 @@ module _ {k : ℕ} {t : Term} {l : List ℕ} {used : ℕ} (h : Stands k t l used
   -- THE TERMS THAT ARE SUBSTITUTED INTO, and the numerals of a let-all's tuple
 
   letOne-last : (x : ℕ) (a : Atom) (u : Term) → redex t ≡ letOne x (plain a) u → RangedTerm l (place + 16) k u
-  unfolding letOne-view simpleSize
+  unfolding letOne-view
   letOne-last x a u is =
       let t₀ : Term = letOne x (plain a) u in
-      record { here = letOne-view x (plain a) u (at₀ t₀ is) .last-at; range = sound-ranged fitsWord k (adding x noVars) u (h .holds .k-high) (sound₀ t₀ is .2) }
+      record {
+        here = term-index (letOne-view x (plain a) u (at₀ t₀ is) .last-at) (ap (λ (n : ℕ). place + (8 + n)) (size-plain a));
+        range = sound-ranged fitsWord k (adding x noVars) u (h .holds .k-high) (sound₀ t₀ is .2);
+      }
 
   letAll-last : (ys : List Atom) (u : Term) → redex t ≡ letAll (tuple ys) u → RangedTerm l (place + (8 + 8 * length ys)) k u
   unfolding letAll-view
@@ -311,12 +314,11 @@ module _ {k : ℕ} {t : Term} {l : List ℕ} {used : ℕ} (h : Stands k t l used
   -- WHAT THE CODE ASKS
 
   asks-by : (t₀ : Term) (q : Plan) → Planned (length (termPath t)) place t₀ q → redex t ≡ t₀ → used + q .up ≤ length l + q .down → PlanFits k q l used
-  unfolding simpleSize
   asks-by _ _ plannedFinished is fits = record { edit = tt; levels = omega (arith, redex-room h, fits-buf); up = omega arith; down = omega arith }
   asks-by _ _ plannedOver is fits = record { edit = tt; levels = omega (arith, redex-room h, fits-buf); up = omega arith; down = omega arith }
   asks-by _ _ (plannedLetOne {x} {v} {a} {u} st) is fits =
       let t₀ : Term = letOne x (plain a) u in
-      let z : termSize t₀ ≡ 8 + simpleSize (plain a) + termSize u = termSize-letOne x (plain a) u in
+      let z : termSize t₀ ≡ 16 + termSize u = termSize-plain x a u in
       let room : place + (4 + termSize t₀) ≤ used = room₀ t₀ is in
       let low : x < 17 = omega (arith, sound₀ t₀ is .0 .1, h .holds .k-high) in
       record { edit = ((u, letOne-last x a u is), low, omega arith); levels = omega (arith, fits-buf); up = omega arith; down = omega arith }

@@ -1,20 +1,42 @@
 -- Laws of the plan: what it says of the redex that it is made for, and what that reduces to.
 use Prim.Native.Nat.{ℕ, zero, suc, _*_, _+_}
-use mathlib.Core.Path.{_≡_, _∙_, ap, refl, subst, sym}
+use mathlib.Core.Path.{_≡_, _∙_, ap, refl, sym}
 use mathlib.Core.Bool.{Bool, true, false, cond}
 use mathlib.Core.List.{List, map}
 use lib.ListN.{length}
+use native.Mathlib.Omega.{arith}
 use Rattle.rules.specs.Reduction.{onNext, reduce, reduceLetOne, unrollRec, valueOf}
-use Rattle.rules.specs.Store.{fitsWord, minusOne}
+use Rattle.rules.specs.Store.{fitsWord}
 use Rattle.rules.specs.Substitution.{fromStore, only, substitute}
-use Rattle.rules.specs.Syntax.{Answer, Atom, Simple, Term, letAll, letOne, next, num, over, plain, predOf, rec, succOf, tuple}
+use Rattle.rules.specs.Syntax.{Atom, Simple, Term, letAll, letOne, next, num, over, plain, predOf, rec, succOf, tuple}
 use Rattle.record.specs.Term.{simpleSize, termSize}
+use Rattle.record.proofs.TermLaws.{length-encodeSimple}
 use Rattle.place.specs.Nesting.{plug}
-use Rattle.place.specs.TermPath.{Redex, redex, redexLetAll, redexLetOne, redexRec, termPath, terms}
+use Rattle.place.specs.TermPath.{Redex, redex, termPath, terms}
+use Rattle.place.specs.TermView.{simpleKind}
+use Rattle.place.proofs.TermBytesLaws.{encodeSimple-plain, length-encodeAtom, simple-high, termSize-letOne}
 use Rattle.place.proofs.TermPathLaws.{plug-redex, redex-kind, reduce-letAll-tuple, reduce-plug}
 use Rattle.redex.specs.Plan.{plan, planLetOne, planRaise, planRec, planRedex}
 use Rattle.redex.specs.declared.Plan.{Plan}
 use Rattle.redex.specs.declared.Rule.the-variants.{Finished, LetAll, LetOne, Numeral, Over, Stop, Unroll}
+
+-- WHAT A LET-ONE BINDS has 8 bytes where it is an atom, and else 12
+
+pub size-plain : (a : Atom) → simpleSize (plain a) ≡ 8
+size-plain a = sym (length-encodeSimple (plain a)) ∙ ap length (encodeSimple-plain a) ∙ length-encodeAtom a
+
+size-succ : (a : Atom) → simpleSize (succOf a) ≡ 12
+unfolding simpleKind
+size-succ a = simple-high (succOf a) (omega arith)
+
+size-pred : (a : Atom) → simpleSize (predOf a) ≡ 12
+unfolding simpleKind
+size-pred a = simple-high (predOf a) (omega arith)
+
+pub termSize-plain : (x : ℕ) (a : Atom) (t : Term) → termSize (letOne x (plain a) t) ≡ 16 + termSize t
+termSize-plain x a t = termSize-letOne x (plain a) t ∙ ap (λ (n : ℕ). 8 + n + termSize t) (size-plain a)
+
+-- THE PLAN
 
 -- The plan of a redex at p: its parts, and what it reduces to.
 pub data Planned (levels p : ℕ) : Term → Plan → Type 0 where
@@ -34,15 +56,15 @@ pub data Planned (levels p : ℕ) : Term → Plan → Type 0 where
 
 module _ (levels p : ℕ) where
   planned-raise : (x : ℕ) (a : Atom) (t : Term) (b : Bool) → fitsWord (suc (valueOf a)) ≡ b → Planned levels p (letOne x (succOf a) t) (planRaise levels p x (suc (valueOf a)) b)
-  unfolding planRaise reduce reduceLetOne simpleSize
-  planned-raise x a t true e = plannedNumeral refl (ap (λ (c : Bool). cond c (next (letOne x (plain (num (suc (valueOf a)))) t)) over) e)
+  unfolding planRaise reduce reduceLetOne
+  planned-raise x a t true e = plannedNumeral (size-succ a) (ap (λ (c : Bool). cond c (next (letOne x (plain (num (suc (valueOf a)))) t)) over) e)
   planned-raise x a t false e = plannedOver
 
   planned-letOne : (x : ℕ) (s : Simple) (t : Term) → Planned levels p (letOne x s t) (planLetOne levels p x s)
-  unfolding planLetOne reduce reduceLetOne simpleSize
+  unfolding planLetOne reduce reduceLetOne
   planned-letOne x (plain a) t = plannedLetOne refl
   planned-letOne x (succOf a) t = planned-raise x a t (fitsWord (suc (valueOf a))) refl
-  planned-letOne x (predOf a) t = plannedNumeral refl refl
+  planned-letOne x (predOf a) t = plannedNumeral (size-pred a) refl
 
   planned-rec : (x : ℕ) (a : Atom) (ys : List Atom) (t : Term) (v : ℕ) → valueOf a ≡ v → Planned levels p (rec x a ys t) (planRec levels p x (termSize t) v)
   unfolding planRec reduce unrollRec

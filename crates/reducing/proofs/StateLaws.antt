@@ -14,7 +14,7 @@ use Rattle.rules.specs.Reduction.{reduce}
 use Rattle.rules.specs.Sound.{SoundTerm}
 use Rattle.rules.specs.Store.{fitsWord}
 use Rattle.rules.specs.Syntax.{Answer, Term, next}
-use Rattle.place.specs.Nesting.{around, plug, rests}
+use Rattle.place.specs.Nesting.{around, rests}
 use Rattle.place.specs.TermPath.{redex, termPath, terms}
 use Rattle.place.specs.TermView.{TermAt}
 use Rattle.place.specs.Whole.{termFront}

@@ -1,13 +1,7 @@
+-- In each arm the rule is known: what the edit asks and what it makes are that rule's clauses.
 use borrow.Author.Needs.{needs}
 use Rattle.reducing.proofs.perform.edit.Statement.{statement}
 use Rattle.reducing.proofs.perform.edit.Tie as tie
-use Rattle.reducing.proofs.perform.edit.Reads as reads
-use Rattle.reducing.proofs.perform.edit.Lts as lts
-use Rattle.reducing.proofs.perform.let_all.Reads as let-all-reads
-use Rattle.reducing.proofs.perform.let_one.Reads as let-one-reads
-use Rattle.reducing.proofs.perform.set_numeral.Reads as set-numeral-reads
-use Rattle.reducing.proofs.perform.stop.Reads as stop-reads
-use Rattle.reducing.proofs.perform.unroll.Reads as unroll-reads
 use mathlib.Core.Path.{refl}
 use Rattle.redex.specs.declared.Rule.the-variants.{Finished, LetAll, LetOne, Numeral, Over, Stop, Unroll}
 use Rattle.reducing.proofs.EditedLaws.{asks-by, edited-by}
@@ -18,107 +12,85 @@ enum-told c = search needs
 enum-told-2 : tie.Need-enum-told-2
 enum-told-2 c = search needs
 
--- src/perform.rt:97:33
 enum-told-3 : tie.Need-enum-told-3
 enum-told-3 c = search needs
 
--- src/perform.rt:97:25
 let-one-requires : tie.Need-let-one-requires
 let-one-requires c κs =
     let e = asks-by (c .before .before .before .before .args .k) (c .before .before .before .before .args .used) (c .before .before .before .before .args .p) (c .before .before .before .before .args .buf .now) LetOne (c .before .enum-told3 .given .1) (c .before .before .before .before .pre .0) in
     (e .0, e .1, e .2, c .before .before .before .before .pre .1)
 
--- src/perform.rt:98:38
 enum-told-4 : tie.Need-enum-told-4
 enum-told-4 c = search needs
 
--- src/perform.rt:98:26
 set-numeral-requires : tie.Need-set-numeral-requires
 set-numeral-requires c κs =
     let e = asks-by (c .before .before .before .before .args .k) (c .before .before .before .before .args .used) (c .before .before .before .before .args .p) (c .before .before .before .before .args .buf .now) Numeral (c .before .enum-told4 .given .1) (c .before .before .before .before .pre .0) in
     (e .0, e .1, c .before .before .before .before .pre .1)
 
--- src/perform.rt:99:33
 enum-told-5 : tie.Need-enum-told-5
 enum-told-5 c = search needs
 
--- src/perform.rt:99:25
 let-all-requires : tie.Need-let-all-requires
 let-all-requires c κs =
     let e = asks-by (c .before .before .before .before .args .k) (c .before .before .before .before .args .used) (c .before .before .before .before .args .p) (c .before .before .before .before .args .buf .now) LetAll (c .before .enum-told5 .given .1) (c .before .before .before .before .pre .0) in
     (e .0, e .1, e .2, e .3, c .before .before .before .before .pre .1)
 
--- src/perform.rt:100:28
 enum-told-6 : tie.Need-enum-told-6
 enum-told-6 c = search needs
 
--- src/perform.rt:100:23
 stop-requires : tie.Need-stop-requires
 stop-requires c κs =
     let e = asks-by (c .before .before .before .before .args .k) (c .before .before .before .before .args .used) (c .before .before .before .before .args .p) (c .before .before .before .before .args .buf .now) Stop (c .before .enum-told6 .given .1) (c .before .before .before .before .pre .0) in
     (e .0, e .1, c .before .before .before .before .pre .1)
 
--- src/perform.rt:101:32
 enum-told-7 : tie.Need-enum-told-7
 enum-told-7 c = search needs
 
--- src/perform.rt:101:25
 unroll-requires : tie.Need-unroll-requires
 unroll-requires c κs =
     let e = asks-by (c .before .before .before .before .args .k) (c .before .before .before .before .args .used) (c .before .before .before .before .args .p) (c .before .before .before .before .args .buf .now) Unroll (c .before .enum-told7 .given .1) (c .before .before .before .before .pre .0) in
     (e .0, e .1, e .2, e .3, c .before .before .before .before .pre .2)
 
--- src/perform.rt:89:1
 returns : tie.Need-returns
 returns c =
     edited-by (c .before .before .before .args .k) (c .before .before .before .args .used) (c .before .before .before .args .p) (c .before .before .before .args .buf .now) _ Finished (c .enum-told .given .1) refl
 
--- src/perform.rt:89:1
 returns-2 : tie.Need-returns-2
 returns-2 c =
     edited-by (c .before .before .before .args .k) (c .before .before .before .args .used) (c .before .before .before .args .p) (c .before .before .before .args .buf .now) _ Over (c .enum-told2 .given .1) refl
 
--- src/perform.rt:89:1
 same-length : tie.Need-same-length
 same-length c = search needs
 
--- src/perform.rt:89:1
 returns-3 : tie.Need-returns-3
 returns-3 c =
     edited-by (c .before .before .before .before .before .before .before .args .k) (c .before .before .before .before .before .before .before .args .used) (c .before .before .before .before .before .before .before .args .p) (c .before .before .before .before .before .before .before .args .buf .now) _ LetOne (c .before .before .before .before .enum-told3 .given .1) (c .before .before .let-one .ensures)
 
--- src/perform.rt:89:1
 same-length-2 : tie.Need-same-length-2
 same-length-2 c = search needs
 
--- src/perform.rt:89:1
 returns-4 : tie.Need-returns-4
 returns-4 c =
     edited-by (c .before .before .before .before .before .before .before .args .k) (c .before .before .before .before .before .before .before .args .used) (c .before .before .before .before .before .before .before .args .p) (c .before .before .before .before .before .before .before .args .buf .now) _ Numeral (c .before .before .before .before .enum-told4 .given .1) (c .before .before .set-numeral .ensures)
 
--- src/perform.rt:89:1
 same-length-3 : tie.Need-same-length-3
 same-length-3 c = search needs
 
--- src/perform.rt:89:1
 returns-5 : tie.Need-returns-5
 returns-5 c =
     edited-by (c .before .before .before .before .before .before .before .args .k) (c .before .before .before .before .before .before .before .args .used) (c .before .before .before .before .before .before .before .args .p) (c .before .before .before .before .before .before .before .args .buf .now) _ LetAll (c .before .before .before .before .enum-told5 .given .1) (c .before .before .let-all .ensures)
 
--- src/perform.rt:89:1
 same-length-4 : tie.Need-same-length-4
 same-length-4 c = search needs
 
--- src/perform.rt:89:1
 returns-6 : tie.Need-returns-6
 returns-6 c =
     edited-by (c .before .before .before .before .before .before .before .args .k) (c .before .before .before .before .before .before .before .args .used) (c .before .before .before .before .before .before .before .args .p) (c .before .before .before .before .before .before .before .args .buf .now) _ Stop (c .before .before .before .before .enum-told6 .given .1) (c .before .before .stop .ensures)
 
--- src/perform.rt:89:1
 same-length-5 : tie.Need-same-length-5
 same-length-5 c = search needs
 
--- src/perform.rt:89:1
 returns-7 : tie.Need-returns-7
 returns-7 c =
     edited-by (c .before .before .before .before .before .before .before .args .k) (c .before .before .before .before .before .before .before .args .used) (c .before .before .before .before .before .before .before .args .p) (c .before .before .before .before .before .before .before .args .buf .now) _ Unroll (c .before .before .before .before .enum-told7 .given .1) (c .before .before .unroll .ensures)

@@ -1,34 +1,24 @@
+-- The value stored into the last term, and the bytes before it taken out, are one edit.
 use borrow.Author.Needs.{needs}
 use Rattle.reducing.proofs.perform.let_one.Statement.{statement}
 use Rattle.reducing.proofs.perform.let_one.Tie as tie
-use Rattle.reducing.proofs.perform.let_one.Reads as reads
-use Rattle.reducing.proofs.perform.let_one.Lts as lts
-use Rattle.edit.proofs.remove.Reads as remove-reads
-use Rattle.filling.proofs.substitution.substitute_at.Reads as substitute-at-reads
-use Rattle.filling.proofs.values.only.Reads as only-reads
 use Rattle.reducing.proofs.EditedLaws.{filled-is}
 
--- src/perform.rt:36:24
 add-substitute-at : tie.Need-add-substitute-at
 add-substitute-at c = search needs
 
--- src/perform.rt:36:36
 only-requires : tie.Need-only-requires
 only-requires c κs = search needs
 
--- src/perform.rt:36:5
 substitute-at-requires : tie.Need-substitute-at-requires
 substitute-at-requires c κs = (c .before .before .before .pre .0, c .only .ensures .0)
 
--- src/perform.rt:37:5
 remove-requires : tie.Need-remove-requires
 remove-requires c κs = search needs
 
--- src/perform.rt:32:1
 same-length : tie.Need-same-length
 same-length c = search needs
 
--- src/perform.rt:32:1
 returns : tie.Need-returns
 returns c =
     λ u r. filled-is (c .before .before .before .before .before .before .before .before .before .before .args .buf .now) _ _ (c .before .before .before .before .before .before .before .before .before .before .args .at) 16 (c .before .before .before .before .before .before .before .before .before .before .args .used) _ _ u (c .before .before .before .before .before .before .before .only .ensures .1) (c .before .before .before .before .before .before .substitute-at .ensures u r) (c .before .before .remove .ensures)

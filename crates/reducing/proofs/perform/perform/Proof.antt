@@ -1,44 +1,35 @@
+-- Every term that stands in the buffer has this plan, so the two calls are its reduction.
 use borrow.Author.Needs.{needs}
 use Rattle.reducing.proofs.perform.perform.Statement.{statement}
 use Rattle.reducing.proofs.perform.perform.Tie as tie
-use Rattle.reducing.proofs.perform.perform.Reads as reads
-use Rattle.reducing.proofs.perform.perform.Lts as lts
-use Rattle.edit.proofs.relength.Reads as relength-reads
-use Rattle.reducing.proofs.perform.edit.Reads as edit-reads
 use native.Mathlib.Omega.{arith}
 use Rattle.reducing.proofs.PerformLaws.{performs, ready-fits}
 
--- src/perform.rt:110:5
 edit-requires : tie.Need-edit-requires
 edit-requires c κs =
     let h = c .before .before .pre .1 in
     (ready-fits (c .before .before .args .p) h .edit, h .stands .holds .within, h .stands .short)
 
--- src/perform.rt:111:5
 relength-requires : tie.Need-relength-requires
 relength-requires c κs =
     let f = ready-fits (c .before .before .before .before .before .before .args .p) (c .before .before .before .before .before .before .pre .1) in
     omega (arith, c .before .before .before .edit .kept .0)
 
--- src/perform.rt:112:5
 add-result : tie.Need-add-result
 add-result c =
     let h = c .before .before .before .before .before .before .before .before .before .before .pre .1 in
     let f = ready-fits (c .before .before .before .before .before .before .before .before .before .before .args .p) h in
     omega (arith, h .stands .short, h .stands .holds .within)
 
--- src/perform.rt:112:5
 sub-result : tie.Need-sub-result
 sub-result c =
     let h = c .before .before .before .before .before .before .before .before .before .before .before .pre .1 in
     let f = ready-fits (c .before .before .before .before .before .before .before .before .before .before .before .args .p) h in
     omega (arith, h .stands .short, h .stands .holds .within)
 
--- src/perform.rt:106:1
 same-length : tie.Need-same-length
 same-length c = search needs
 
--- src/perform.rt:106:1
 returns : tie.Need-returns
 returns c =
     let g = c .before .before .before .before .before .before .before .before .before .before .before .pre .1 in

@@ -1,47 +1,33 @@
+-- The removal and the two stores are one edit.
 use borrow.Author.Needs.{needs}
 use Rattle.reducing.proofs.perform.set_numeral.Statement.{statement}
 use Rattle.reducing.proofs.perform.set_numeral.Tie as tie
-use Rattle.reducing.proofs.perform.set_numeral.Reads as reads
-use Rattle.reducing.proofs.perform.set_numeral.Lts as lts
-use Rattle.buffer.proofs.get_u16.Reads as get-u16-reads
-use Rattle.buffer.proofs.put_u16.Reads as put-u16-reads
-use Rattle.edit.proofs.put_leaf.Reads as put-leaf-reads
-use Rattle.edit.proofs.remove.Reads as remove-reads
 use Rattle.reducing.proofs.EditedLaws.{numeral-is}
 
--- src/perform.rt:45:9
 get-u16-requires : tie.Need-get-u16-requires
 get-u16-requires c κs = search needs
 
--- src/perform.rt:46:17
 add-remove : tie.Need-add-remove
 add-remove c = search needs
 
--- src/perform.rt:46:5
 remove-requires : tie.Need-remove-requires
 remove-requires c κs = search needs
 
--- src/perform.rt:47:22
 sub-put-u16 : tie.Need-sub-put-u16
 sub-put-u16 c = search needs
 
--- src/perform.rt:47:5
 put-u16-requires : tie.Need-put-u16-requires
 put-u16-requires c κs = search needs
 
--- src/perform.rt:48:19
 add-put-leaf : tie.Need-add-put-leaf
 add-put-leaf c = search needs
 
--- src/perform.rt:48:5
 put-leaf-requires : tie.Need-put-leaf-requires
 put-leaf-requires c κs = search needs
 
--- src/perform.rt:41:1
 same-length : tie.Need-same-length
 same-length c = search needs
 
--- src/perform.rt:41:1
 returns : tie.Need-returns
 returns c =
     numeral-is (c .before .before .before .before .before .before .before .before .before .before .before .before .before .before .before .args .buf .now) _ _ _ (c .before .before .before .before .before .before .before .before .before .before .before .before .before .before .before .args .at) (c .before .before .before .before .before .before .before .before .before .before .before .before .before .before .before .args .used) _ (c .before .before .before .before .before .before .before .before .before .before .before .before .before .before .before .args .v) (c .before .before .before .before .before .before .before .before .before .before .before .before .get-u16 .ensures .0) (c .before .before .before .before .before .before .before .before .before .before .remove .ensures) (c .before .before .before .before .before .before .put-u16 .ensures) (c .before .before .put-leaf .ensures)

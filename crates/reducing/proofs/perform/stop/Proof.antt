@@ -1,42 +1,31 @@
+-- The start tuple moved down, and the bytes behind it taken out, are one edit.
 use borrow.Author.Needs.{needs}
 use Rattle.reducing.proofs.perform.stop.Statement.{statement}
 use Rattle.reducing.proofs.perform.stop.Tie as tie
-use Rattle.reducing.proofs.perform.stop.Reads as reads
-use Rattle.reducing.proofs.perform.stop.Lts as lts
-use Rattle.buffer.proofs.move_down.Reads as move-down-reads
-use Rattle.edit.proofs.remove.Reads as remove-reads
 use mathlib.Core.Path.{refl}
 use Rattle.reducing.proofs.EditedLaws.{stopped-is}
 
--- src/perform.rt:66:17
 mul-n : tie.Need-mul-n
 mul-n c = search needs
 
--- src/perform.rt:66:13
 add-n : tie.Need-add-n
 add-n c = search needs
 
--- src/perform.rt:67:20
 add-move-down : tie.Need-add-move-down
 add-move-down c = search needs
 
--- src/perform.rt:67:5
 move-down-requires : tie.Need-move-down-requires
 move-down-requires c κs = search needs
 
--- src/perform.rt:68:17
 add-remove : tie.Need-add-remove
 add-remove c = search needs
 
--- src/perform.rt:68:5
 remove-requires : tie.Need-remove-requires
 remove-requires c κs = search needs
 
--- src/perform.rt:62:1
 same-length : tie.Need-same-length
 same-length c = search needs
 
--- src/perform.rt:62:1
 returns : tie.Need-returns
 returns c =
     stopped-is (c .before .before .before .before .before .before .before .before .before .args .buf .now) _ _ (c .before .before .before .before .before .before .before .before .before .args .at) (c .before .before .before .before .before .before .before .before .before .args .k) (c .before .before .before .before .before .before .before .before .before .args .down) (c .before .before .before .before .before .before .before .before .before .args .used) _ refl (c .before .before .before .before .before .before .move-down .ensures) (c .before .before .remove .ensures)
