@@ -15,6 +15,7 @@ pub mod RowLaws
 pub mod AnswerLaws
 pub mod HeldLaws
 pub mod HoldingLaws
+pub mod CheckedRowLaws
 pub mod RowMeaningLaws
 pub mod HeaderReadLaws
 pub mod AloneLaws

@@ -1,0 +1,76 @@
+-- A call's rows begin with the checker's: where the checker refuses, its number is the call's, and where it accepts, the rows
+-- behind decide.
+use Prim.Native.Nat.{ℕ, _≤_}
+use mathlib.Core.Path.{ap, refl, sym, _∙_, _≡_}
+use mathlib.Core.Bool.{Bool, false, true, _||_}
+use mathlib.Core.List.{_++_, List, [], _∷_}
+use lib.ListN.{length}
+use Rattle.buffer.specs.LittleEndian.{Bytes}
+use Rattle.rules.specs.FreeVariables.{allVars}
+use Rattle.rules.specs.Syntax.{Block, Term}
+use Rattle.record.specs.Answers.{Checked, checkProgram, checkProgramRows, checkTerm, checkTermRows}
+use Rattle.record.specs.Holding.{ProgramIn, TermIn}
+use Rattle.record.specs.Rows.{NoRow, Row, badBuffer, firstRow, pickRow, programRows, row, termRows}
+use Rattle.record.proofs.AnswerLaws.{check-program-number, check-term-number}
+use Rattle.record.proofs.HoldingLaws.{check-program, check-term}
+use Rattle.record.proofs.RowLaws.{first-none, first-skips}
+
+-- ROWS BEHIND OTHERS
+
+pub first-before : (rs more : List Row) → (firstRow rs ≡ 0 → ⊥) → firstRow (rs ++ more) ≡ firstRow rs
+unfolding firstRow pickRow
+first-before [] more h = absurd (h refl)
+first-before (r ∷ rs) more h = go (r .applies) (first-before rs more) h
+  where
+    go : (b : Bool) → ((firstRow rs ≡ 0 → ⊥) → firstRow (rs ++ more) ≡ firstRow rs) → (pickRow b (r .number) (firstRow rs) ≡ 0 → ⊥)
+        → pickRow b (r .number) (firstRow (rs ++ more)) ≡ pickRow b (r .number) (firstRow rs)
+    go true ih h = refl
+    go false ih h = ih h
+
+pub first-behind : (rs more : List Row) → NoRow rs → firstRow (rs ++ more) ≡ firstRow more
+first-behind [] more h = refl
+first-behind (r ∷ rs) more h = first-skips (r .number) (r .applies) (rs ++ more) (h .0) ∙ first-behind rs more (h .1)
+
+-- row 1 with an output buffer that is not too long
+pub or-right : (a b : Bool) → b ≡ false → (a || b) ≡ a
+or-right true b e = refl
+or-right false b e = e
+
+-- BEHIND A PROGRAM'S CHECK, by what the checker answers. `one` is row 1 of the call: `refl` or `or-right`.
+
+module _ (buf : List ℕ) (used n k : ℕ) (answer : checkProgram buf used ≡ record { number = n; k = k }) where
+  program-row : firstRow (checkProgramRows buf used) ≡ n
+  program-row = sym (check-program-number buf used) ∙ ap (λ (c : Checked). c .number) answer
+
+  pub program-refuses : (n ≡ 0 → ⊥) → (one : Bool) → one ≡ badBuffer buf used → (more : List Row) → firstRow (row 1 one ∷ programRows buf used more) ≡ n
+  program-refuses h one e more =
+      ap (λ (b : Bool). firstRow (row 1 b ∷ programRows buf used more)) e
+      ∙ first-before (checkProgramRows buf used) more (λ z. h (sym program-row ∙ z)) ∙ program-row
+
+  pub program-accepts : n ≡ 0 → (one : Bool) → one ≡ badBuffer buf used → (more : List Row) → firstRow (row 1 one ∷ programRows buf used more) ≡ firstRow more
+  program-accepts z one e more =
+      ap (λ (b : Bool). firstRow (row 1 b ∷ programRows buf used more)) e
+      ∙ first-behind (checkProgramRows buf used) more (first-none (checkProgramRows buf used) refl (program-row ∙ z))
+
+  -- what the buffer holds then
+  pub program-accepted : n ≡ 0 → Bytes buf → (length buf ≤ 16384) × ((P : Block) × ProgramIn k P buf used)
+  program-accepted z hb = check-program k buf used hb .0 (answer ∙ ap (λ (m : ℕ). record { number = m; k = k }) z)
+
+-- BEHIND A TERM'S
+
+module _ (buf : List ℕ) (used n k : ℕ) (answer : checkTerm buf used ≡ record { number = n; k = k }) where
+  term-row : firstRow (checkTermRows buf used) ≡ n
+  term-row = sym (check-term-number buf used) ∙ ap (λ (c : Checked). c .number) answer
+
+  pub term-refuses : (n ≡ 0 → ⊥) → (one : Bool) → one ≡ badBuffer buf used → (more : List Row) → firstRow (row 1 one ∷ termRows buf used more) ≡ n
+  term-refuses h one e more =
+      ap (λ (b : Bool). firstRow (row 1 b ∷ termRows buf used more)) e
+      ∙ first-before (checkTermRows buf used) more (λ z. h (sym term-row ∙ z)) ∙ term-row
+
+  pub term-accepts : n ≡ 0 → (one : Bool) → one ≡ badBuffer buf used → (more : List Row) → firstRow (row 1 one ∷ termRows buf used more) ≡ firstRow more
+  term-accepts z one e more =
+      ap (λ (b : Bool). firstRow (row 1 b ∷ termRows buf used more)) e
+      ∙ first-behind (checkTermRows buf used) more (first-none (checkTermRows buf used) refl (term-row ∙ z))
+
+  pub term-accepted : n ≡ 0 → Bytes buf → (length buf ≤ 16384) × ((t : Term) × TermIn allVars k t buf used)
+  term-accepted z hb = check-term k buf used hb .0 (answer ∙ ap (λ (m : ℕ). record { number = m; k = k }) z)
