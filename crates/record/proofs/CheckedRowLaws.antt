@@ -2,7 +2,7 @@
 -- behind decide.
 use Prim.Native.Nat.{ℕ, _≤_}
 use mathlib.Core.Path.{ap, refl, sym, _∙_, _≡_}
-use mathlib.Core.Bool.{Bool, false, true, _||_}
+use mathlib.Core.Bool.{Bool, false, true}
 use mathlib.Core.List.{_++_, List, [], _∷_}
 use lib.ListN.{length}
 use Rattle.buffer.specs.LittleEndian.{Bytes}
@@ -31,12 +31,8 @@ pub first-behind : (rs more : List Row) → NoRow rs → firstRow (rs ++ more) �
 first-behind [] more h = refl
 first-behind (r ∷ rs) more h = first-skips (r .number) (r .applies) (rs ++ more) (h .0) ∙ first-behind rs more (h .1)
 
--- row 1 with an output buffer that is not too long
-pub or-right : (a b : Bool) → b ≡ false → (a || b) ≡ a
-or-right true b e = refl
-or-right false b e = e
-
--- BEHIND A PROGRAM'S CHECK, by what the checker answers. `one` is row 1 of the call: `refl` or `or-right`.
+-- BEHIND A PROGRAM'S CHECK, by what the checker answers. `one` is row 1 of the call, which may look at an output
+-- buffer as well (`or-right`).
 
 module _ (buf : List ℕ) (used n k : ℕ) (answer : checkProgram buf used ≡ record { number = n; k = k }) where
   program-row : firstRow (checkProgramRows buf used) ≡ n

@@ -1,2 +1,3 @@
 pub mod CallLaws
+pub mod AnsweredLaws
 pub mod CallMeaningLaws
