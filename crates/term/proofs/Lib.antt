@@ -1,3 +1,3 @@
 pub mod CallLaws
-pub mod AnsweredLaws
 pub mod CallMeaningLaws
+pub mod AnsweredLaws

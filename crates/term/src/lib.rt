@@ -1,6 +1,8 @@
 // The calls on terms. Each checks its whole input (rows 1 to 5) and then does its work in a function of its own, which asks for
 // what the check has made sure of.
-
+pub mod read_back;
+pub mod result;
+pub mod substitute;
 pub mod translate;
 
 // The longest buffer that may be lent.
