@@ -2,7 +2,7 @@
  *
  * Lent memory: a buffer is a pointer and its length in bytes; its first `used` bytes are the record. Buffers are at most
  * 16,384 bytes long. Memory lent to one call must not overlap. NULL may be lent only with length 0. No call keeps a pointer,
- * none allocates, and none needs more than about 2 KB of stack.
+ * none allocates, and none needs more than about 2 KB of stack (translate: 3 KB).
  *
  * Every call ends, and answers 0 or the number of the first refusal that applies. A refusal gives 0 for everything else and
  * changes no byte that was lent.
@@ -12,7 +12,11 @@
  *    3  k not 1 to 16
  *    4  bytes outside the grammar
  *    5  a variable number not 1 to k
- *    6  weighing: the store has not 1 to 16 values
+ *    6  the store has not k values; weighing: not 1 to 16
+ *    7  a free variable
+ *    8  not finished
+ *    9  no program translates to it
+ *   10  the answer is longer than the output buffer
  *
  * A store is a pointer to 32-bit values, aligned to 4 bytes, and their number; its first value is variable 1's.
  */
@@ -34,6 +38,24 @@ vistrokk_checked vistrokk_check_program(const uint8_t *buf, size_t buf_len, size
 
 /* Is it a term's record, of k variables? Refusals 1 to 5. Writes nothing. */
 vistrokk_checked vistrokk_check_term(const uint8_t *buf, size_t buf_len, size_t used);
+
+/* number: 0 or the refusal; used: the length of the record in the written buffer, 0 with a refusal. Every byte behind that record
+ * is zero. */
+typedef struct { uint32_t number, used; } vistrokk_written;
+
+/* The term of the program in `src`, into `out`. Refusals 1 (either buffer), 2 to 5 and 10. Writes `out` alone. */
+vistrokk_written vistrokk_translate(const uint8_t *src, size_t src_len, size_t used, uint8_t *out, size_t out_len);
+
+/* The program that translates to the term in `src`, into `out`. Refusals 1 (either buffer), 2 to 5, 9 and 10. Writes `out`
+ * alone. */
+vistrokk_written vistrokk_read_back(const uint8_t *src, size_t src_len, size_t used, uint8_t *out, size_t out_len);
+
+/* The store's values for the free variables of the term in `buf`, in place: `used` stays. Refusals 1 to 6. Writes `buf` alone. */
+vistrokk_written vistrokk_substitute(uint8_t *buf, size_t buf_len, size_t used, const uint32_t *store, size_t store_len);
+
+/* The values of the finished term in `buf`, into the store. Answers 0, or a refusal 1 to 8 with the store as it was. Writes the
+ * store alone. */
+uint32_t vistrokk_result(const uint8_t *buf, size_t buf_len, size_t used, uint32_t *store, size_t store_len);
 
 /* A start store from gross and tare in kilograms: variable 1 gets (gross - tare) / 20, rounded down, 0 if tare is the larger;
  * every other variable 0. Answers 0, or 6 with the store as it was. */

@@ -2,18 +2,22 @@
 -- behind decide.
 use Prim.Native.Nat.{ℕ, _≤_}
 use mathlib.Core.Path.{ap, refl, sym, _∙_, _≡_}
-use mathlib.Core.Bool.{Bool, false, true, _||_}
+use mathlib.Core.Bool.{Bool, false, true}
 use mathlib.Core.List.{_++_, List, [], _∷_}
 use lib.ListN.{length}
+use native.Mathlib.Omega.{arith}
 use Rattle.buffer.specs.LittleEndian.{Bytes}
-use Rattle.rules.specs.FreeVariables.{allVars}
+use Rattle.rules.specs.FreeVariables.{Vars, allVars, closed, noVars}
+use Rattle.rules.specs.Store.{fitsWord}
 use Rattle.rules.specs.Syntax.{Block, Term}
+use Rattle.rules.proofs.SoundTermLaws.{sound-inRange}
 use Rattle.record.specs.Answers.{Checked, checkProgram, checkProgramRows, checkTerm, checkTermRows}
 use Rattle.record.specs.Holding.{ProgramIn, TermIn}
 use Rattle.record.specs.Rows.{NoRow, Row, badBuffer, firstRow, pickRow, programRows, row, termRows}
 use Rattle.record.proofs.AnswerLaws.{check-program-number, check-term-number}
 use Rattle.record.proofs.HoldingLaws.{check-program, check-term}
 use Rattle.record.proofs.RowLaws.{first-none, first-skips}
+use Rattle.record.proofs.WordsLaws.{sound-words, words-sound}
 
 -- ROWS BEHIND OTHERS
 
@@ -31,12 +35,8 @@ pub first-behind : (rs more : List Row) → NoRow rs → firstRow (rs ++ more) �
 first-behind [] more h = refl
 first-behind (r ∷ rs) more h = first-skips (r .number) (r .applies) (rs ++ more) (h .0) ∙ first-behind rs more (h .1)
 
--- row 1 with an output buffer that is not too long
-pub or-right : (a b : Bool) → b ≡ false → (a || b) ≡ a
-or-right true b e = refl
-or-right false b e = e
-
--- BEHIND A PROGRAM'S CHECK, by what the checker answers. `one` is row 1 of the call: `refl` or `or-right`.
+-- BEHIND A PROGRAM'S CHECK, by what the checker answers. `one` is row 1 of the call, which may look at an output
+-- buffer as well (`or-right`).
 
 module _ (buf : List ℕ) (used n k : ℕ) (answer : checkProgram buf used ≡ record { number = n; k = k }) where
   program-row : firstRow (checkProgramRows buf used) ≡ n
@@ -74,3 +74,15 @@ module _ (buf : List ℕ) (used n k : ℕ) (answer : checkTerm buf used ≡ reco
 
   pub term-accepted : n ≡ 0 → Bytes buf → (length buf ≤ 16384) × ((t : Term) × TermIn allVars k t buf used)
   term-accepted z hb = check-term k buf used hb .0 (answer ∙ ap (λ (m : ℕ). record { number = m; k = k }) z)
+
+-- a term that row 7 lets pass
+pub closed-term : {S : Vars} {k : ℕ} {t : Term} {buf : List ℕ} {used : ℕ} → TermIn S k t buf used → closed t ≡ true → TermIn noVars k t buf used
+unfolding closed
+closed-term {S} {k} {t} h e =
+    record {
+      within = h .within;
+      k-low = h .k-low;
+      k-high = h .k-high;
+      bytes = h .bytes;
+      sound = words-sound k noVars t (sound-words k S t (omega (arith, h .k-high)) (h .sound)) (sound-inRange fitsWord k S t (h .sound)) e;
+    }

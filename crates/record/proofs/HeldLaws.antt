@@ -1,9 +1,9 @@
 -- Rows 1 to 3: what they say of a buffer, and of one that begins with a headed record.
 use Prim.Native.Nat.{_+_, _<_, ℕ, _≤_}
 use mathlib.Core.Path.{ap, refl, sym, _∙_, _≡_}
-use mathlib.Core.Bool.{false, not, _||_}
+use mathlib.Core.Bool.{false, not, true, _||_}
 use mathlib.Core.List.{List}
-use borrow.Author.Tests.{eq-eqb, eqb-true, le-ltb, ltb-false, not-false}
+use borrow.Author.Tests.{eq-eqb, eqb-true, le-ltb, lt-ltb, ltb-false, not-false}
 use lib.Dec.{eqb, ltb}
 use lib.ListN.{length, length-take, take}
 use lib.Seq.{length-take-le, take-take}
@@ -29,6 +29,10 @@ short-buffer buf e = ltb-false 16384 (length buf) e
 pub not-long : (buf : List ℕ) → length buf ≤ 16384 → tooLong buf ≡ false
 unfolding tooLong
 not-long buf h = le-ltb 16384 (length buf) h
+
+pub long-buffer : (buf : List ℕ) → 16384 < length buf → tooLong buf ≡ true
+unfolding tooLong
+long-buffer buf h = lt-ltb 16384 (length buf) h
 
 pub record Buffer (buf : List ℕ) (used : ℕ) : Type 0 where
   pub low : length buf ≤ 16384

@@ -72,6 +72,14 @@ or-false false b e = (refl, e)
 pub or-intro : {a b : Bool} → a ≡ false → b ≡ false → (a || b) ≡ false
 or-intro p q = rw (p, q) refl
 
+pub or-right : (a b : Bool) → b ≡ false → (a || b) ≡ a
+or-right true b e = refl
+or-right false b e = e
+
+pub or-true : (a b : Bool) → b ≡ true → (a || b) ≡ true
+or-true true b e = refl
+or-true false b e = e
+
 pub not-intro : {a : Bool} → a ≡ true → not a ≡ false
 not-intro p = rw p refl
 

@@ -40,7 +40,7 @@ nine-iff src used t e =
 
 -- RESULT
 
-result-gives : {k : ℕ} {values buf : List ℕ} {used : ℕ} (h : TermIn noVars k (tuple (map num values)) buf used) → length buf ≤ 16384 → (store : List ℕ) → length store ≡ k
+pub result-gives : {k : ℕ} {values buf : List ℕ} {used : ℕ} (h : TermIn noVars k (tuple (map num values)) buf used) → length buf ≤ 16384 → (store : List ℕ) → length store ≡ k
     → resultCall buf used store ≡ record { number = 0; store = values }
 unfolding resultCall numerals
 result-gives {k} {values} {buf} {used} h l store e =

@@ -5,6 +5,8 @@ ghost use Rattle.record.specs.Answers.{checkProgram, checkTerm};
 ghost use Rattle.checker.specs.Answer.{asChecked};
 ghost use Rattle.run.specs.Represents.{inNumbers};
 ghost use Rattle.stepper.specs.RunStepper.{runStepper};
+ghost use Rattle.term.specs.Answer.{asWrote};
+ghost use Rattle.term.specs.Calls.{readBackCall, resultCall, substituteCall, translateCall};
 ghost use Rattle.weighing.specs.Weigh.{weighCall};
 
 #[no_mangle]
@@ -19,6 +21,34 @@ pub extern "C" fn vistrokk_check_term(buf: &[u8], used: usize) -> checker::Check
     ensures { λ r. ⌜ asChecked r ≡ checkTerm (now (buf .entry)) used ⌝ }
 {
     checker::term::check_term(buf, used)
+}
+
+#[no_mangle]
+pub extern "C" fn vistrokk_translate(src: &[u8], used: usize, out: &mut [u8]) -> term::Written
+    ensures { λ r. ⌜ asWrote r (now (out .exit)) ≡ translateCall (now (src .entry)) used (now (out .entry)) ⌝ }
+{
+    term::translate::translate(src, used, out)
+}
+
+#[no_mangle]
+pub extern "C" fn vistrokk_read_back(src: &[u8], used: usize, out: &mut [u8]) -> term::Written
+    ensures { λ r. ⌜ asWrote r (now (out .exit)) ≡ readBackCall (now (src .entry)) used (now (out .entry)) ⌝ }
+{
+    term::read_back::read_back(src, used, out)
+}
+
+#[no_mangle]
+pub extern "C" fn vistrokk_substitute(buf: &mut [u8], used: usize, store: &[u32]) -> term::Written
+    ensures { λ r. ⌜ asWrote r (now (buf .exit)) ≡ substituteCall (now (buf .entry)) used (now (store .entry)) ⌝ }
+{
+    term::substitute::substitute(buf, used, store)
+}
+
+#[no_mangle]
+pub extern "C" fn vistrokk_result(buf: &[u8], used: usize, store: &mut [u32]) -> u32
+    ensures { λ r. ⌜ (r ≡ (resultCall (now (buf .entry)) used (now (store .entry))) .number) × (now (store .exit) ≡ (resultCall (now (buf .entry)) used (now (store .entry))) .store) ⌝ }
+{
+    term::result::result(buf, used, store)
 }
 
 #[no_mangle]

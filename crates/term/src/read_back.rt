@@ -1,0 +1,54 @@
+// The call read back: the program of a term that is a translation, into another buffer (01 "Translation and read-back").
+use super::LONGEST;
+use super::Written;
+use checker::term::check_term;
+use readback::read_back::is_translation;
+use readback::read_back::source_size;
+use readback::read_back::write_source;
+ghost use mathlib.Core.Path.{_≡_};
+ghost use Prim.Native.Nat.{_≤_};
+ghost use lib.ListN.{length};
+ghost use Rattle.rules.specs.FreeVariables.{allVars};
+ghost use Rattle.rules.specs.Syntax.{Term};
+ghost use Rattle.record.specs.Holding.{TermIn};
+ghost use Rattle.term.specs.Answer.{asWrote};
+ghost use Rattle.term.specs.Calls.{readBackCall};
+
+// The whole term is looked at and measured first, so that a refusal leaves the output as it came.
+fn read_back_checked(src: &[u8], used: usize, k: u32, out: &mut [u8]) -> Written
+    requires { ⌜ ((t : Term) × TermIn allVars k t (now src) used) × (length (now src) ≤ 16384) × (length (now out) ≤ 16384) ⌝ }
+    ensures { λ r. ⌜ asWrote r (now (out .exit)) ≡ readBackCall (now (src .entry)) used (now (out .entry)) ⌝ }
+{
+    if !is_translation(src, used, k) {
+        return Written { number: 9, used: 0 };
+    }
+    let n = source_size(src, used, k);
+    if out.len() < n {
+        return Written {
+            number: 10,
+            used: 0,
+        };
+    }
+    write_source(src, used, k, out);
+    Written {
+        number: 0,
+        used: n as u32,
+    }
+}
+
+// Row 1 looks at both buffers before row 2 looks at the source.
+pub fn read_back(src: &[u8], used: usize, out: &mut [u8]) -> Written
+    ensures { λ r. ⌜ asWrote r (now (out .exit)) ≡ readBackCall (now (src .entry)) used (now (out .entry)) ⌝ }
+{
+    if LONGEST < out.len() {
+        return Written { number: 1, used: 0 };
+    }
+    let checked = check_term(src, used);
+    if checked.number != 0 {
+        return Written {
+            number: checked.number,
+            used: 0,
+        };
+    }
+    read_back_checked(src, used, checked.k, out)
+}

@@ -1,0 +1,39 @@
+// The call result: the values of a finished term into a store (01 "Result and weighing").
+use checker::term::check_term;
+use filling::closed::is_closed;
+use filling::numerals::copy_numerals;
+use filling::numerals::is_finished;
+ghost use mathlib.Core.Path.{_≡_};
+ghost use Prim.Native.Nat.{_≤_};
+ghost use lib.ListN.{length};
+ghost use Rattle.rules.specs.FreeVariables.{allVars};
+ghost use Rattle.rules.specs.Syntax.{Term};
+ghost use Rattle.record.specs.Holding.{TermIn};
+ghost use Rattle.term.specs.Calls.{resultCall};
+
+fn result_checked(buf: &[u8], used: usize, k: u32, store: &mut [u32]) -> u32
+    requires { ⌜ ((t : Term) × TermIn allVars k t (now buf) used) × (length (now buf) ≤ 16384) ⌝ }
+    ensures { λ r. ⌜ (r ≡ (resultCall (now (buf .entry)) used (now (store .entry))) .number) × (now (store .exit) ≡ (resultCall (now (buf .entry)) used (now (store .entry))) .store) ⌝ }
+{
+    if store.len() != k as usize {
+        return 6;
+    }
+    if !is_closed(buf, used, k) {
+        return 7;
+    }
+    if !is_finished(buf, used) {
+        return 8;
+    }
+    copy_numerals(buf, used, k, store);
+    0
+}
+
+pub fn result(buf: &[u8], used: usize, store: &mut [u32]) -> u32
+    ensures { λ r. ⌜ (r ≡ (resultCall (now (buf .entry)) used (now (store .entry))) .number) × (now (store .exit) ≡ (resultCall (now (buf .entry)) used (now (store .entry))) .store) ⌝ }
+{
+    let checked = check_term(buf, used);
+    if checked.number != 0 {
+        return checked.number;
+    }
+    result_checked(buf, used, checked.k, store)
+}

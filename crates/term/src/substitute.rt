@@ -1,0 +1,40 @@
+// The call substitute: a store's values for the free variables of a term, in place (01 "Filling").
+use super::Written;
+use checker::term::check_term;
+use filling::substitution::substitute_record;
+ghost use mathlib.Core.Path.{_≡_};
+ghost use Prim.Native.Nat.{_≤_};
+ghost use lib.ListN.{length};
+ghost use Rattle.rules.specs.FreeVariables.{allVars};
+ghost use Rattle.rules.specs.Syntax.{Term};
+ghost use Rattle.record.specs.Holding.{TermIn};
+ghost use Rattle.term.specs.Answer.{asWrote};
+ghost use Rattle.term.specs.Calls.{substituteCall};
+
+// The used length stays: a numeral is as long as a variable.
+fn substitute_checked(buf: &mut [u8], used: usize, k: u32, store: &[u32]) -> Written
+    requires { ⌜ ((t : Term) × TermIn allVars k t (now buf) used) × (length (now buf) ≤ 16384) ⌝ }
+    ensures { λ r. ⌜ asWrote r (now (buf .exit)) ≡ substituteCall (now (buf .entry)) used (now (store .entry)) ⌝ }
+{
+    if store.len() != k as usize {
+        return Written { number: 6, used: 0 };
+    }
+    substitute_record(buf, used, k, store);
+    Written {
+        number: 0,
+        used: used as u32,
+    }
+}
+
+pub fn substitute(buf: &mut [u8], used: usize, store: &[u32]) -> Written
+    ensures { λ r. ⌜ asWrote r (now (buf .exit)) ≡ substituteCall (now (buf .entry)) used (now (store .entry)) ⌝ }
+{
+    let checked = check_term(buf, used);
+    if checked.number != 0 {
+        return Written {
+            number: checked.number,
+            used: 0,
+        };
+    }
+    substitute_checked(buf, used, checked.k, store)
+}

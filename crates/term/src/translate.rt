@@ -1,0 +1,49 @@
+// The call translate: a program's term into another buffer (01 "Translation and read-back").
+use super::LONGEST;
+use super::Written;
+use checker::program::check_program;
+use translator::translation::translation_size;
+use translator::translation::write_translation;
+ghost use mathlib.Core.Path.{_≡_};
+ghost use Prim.Native.Nat.{_≤_};
+ghost use lib.ListN.{length};
+ghost use Rattle.rules.specs.Syntax.{Block};
+ghost use Rattle.record.specs.Holding.{ProgramIn};
+ghost use Rattle.term.specs.Answer.{asWrote};
+ghost use Rattle.term.specs.Calls.{translateCall};
+
+// The term is measured first, so that a refusal leaves the output as it came.
+fn translate_checked(src: &[u8], used: usize, k: u32, out: &mut [u8]) -> Written
+    requires { ⌜ ((P : Block) × ProgramIn k P (now src) used) × (length (now src) ≤ 16384) × (length (now out) ≤ 16384) ⌝ }
+    ensures { λ r. ⌜ asWrote r (now (out .exit)) ≡ translateCall (now (src .entry)) used (now (out .entry)) ⌝ }
+{
+    let n = translation_size(src, used, k);
+    if out.len() < n {
+        return Written {
+            number: 10,
+            used: 0,
+        };
+    }
+    write_translation(src, used, k, out);
+    Written {
+        number: 0,
+        used: n as u32,
+    }
+}
+
+// Row 1 looks at both buffers before row 2 looks at the source.
+pub fn translate(src: &[u8], used: usize, out: &mut [u8]) -> Written
+    ensures { λ r. ⌜ asWrote r (now (out .exit)) ≡ translateCall (now (src .entry)) used (now (out .entry)) ⌝ }
+{
+    if LONGEST < out.len() {
+        return Written { number: 1, used: 0 };
+    }
+    let checked = check_program(src, used);
+    if checked.number != 0 {
+        return Written {
+            number: checked.number,
+            used: 0,
+        };
+    }
+    translate_checked(src, used, checked.k, out)
+}
