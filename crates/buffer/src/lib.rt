@@ -7,13 +7,13 @@ ghost use Rattle.buffer.specs.LittleEndian.{le, val};
 ghost use Rattle.buffer.specs.Slice.{put, part, zeros};
 
 // A cast through a function: its contract brings the bound that a bare cast of a byte leaves to be shown.
-pub fn wide(x: u8) -> usize
+fn wide(x: u8) -> usize
     ensures { λ r. ⌜ (r ≡ x) × (r < 256) ⌝ }
 {
     x as usize
 }
 
-pub fn wide32(x: u8) -> u32
+fn wide32(x: u8) -> u32
     ensures { λ r. ⌜ (r ≡ x) × (r < 256) ⌝ }
 {
     x as u32
