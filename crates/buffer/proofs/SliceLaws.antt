@@ -62,6 +62,11 @@ pub bytes-part : (l : List ℕ) (at n : ℕ) → Bytes l → Bytes (part l at n)
 unfolding part
 bytes-part l at n h = bytes-take n (drop at l) (bytes-drop at l h)
 
+-- A part and the part behind it are one.
+part-append : (l : List ℕ) (at m n : ℕ) → part l at (m + n) ≡ part l at m ++ part l (at + m) n
+unfolding part
+part-append l at m n = take-add m n (drop at l) ∙ ap (λ (x : List ℕ). take m (drop at l) ++ take n x) (drop-drop m at l)
+
 -- What was written is read back.
 pub part-put-same : (l vs : List ℕ) (at n : ℕ) → at ≤ length l → length vs ≡ n → part (put l at vs) at n ≡ vs
 unfolding put
@@ -105,6 +110,21 @@ drop-put l vs at n h b =
     let e : length p + (n - m) ≡ n = omega arith in
     let f : m + (n - m) ≡ n = omega arith in
     rw (← append-assoc (take at l) vs (drop m l)) (ap (λ (j : ℕ). drop j (p ++ drop m l)) (sym e) ∙ drop-append-add p (drop m l) (n - m) ∙ drop-drop (n - m) m l ∙ ap (λ (j : ℕ). drop j l) f)
+
+-- What is read behind the bytes written, or before them, is as it was.
+part-put-after : (l vs : List ℕ) (at from n : ℕ) → at + length vs ≤ from → at ≤ length l → part (put l at vs) from n ≡ part l from n
+unfolding part
+part-put-after l vs at from n h b = ap (take n) (drop-put l vs at from h b)
+
+part-put-before : (l vs : List ℕ) (at from n : ℕ) → from + n ≤ at → at ≤ length l → part (put l at vs) from n ≡ part l from n
+unfolding put part
+part-put-before l vs at from n h b =
+    let r : ℕ = at - (from + n) in
+    let m : List ℕ = part l from n in
+    let q : List ℕ = vs ++ drop (at + length vs) l in
+    let s : take at l ≡ take from l ++ (m ++ take r (drop (from + n) l)) =
+    ap (λ (k : ℕ). take k l) {x = at} {y = from + (n + r)} (omega arith) ∙ take-add from (n + r) l ∙ ap (λ (x : List ℕ). take from l ++ x) (part-append l from n r) in
+    part-re (put l at vs) (take from l) m (take r (drop (from + n) l) ++ q) from n (ap (λ (x : List ℕ). x ++ q) s ∙ simp append-assoc) (length-take-le from l (omega arith)) (length-part l from n (omega arith))
 
 -- Stores of single bytes in a row are one put.
 pub put-sets : (l : List ℕ) (at : ℕ) (vs : List ℕ) → at + length vs ≤ length l → sets l at vs ≡ put l at vs
@@ -196,3 +216,26 @@ zeros-one = refl
 pub zeroed-next : (l b : List ℕ) (at n : ℕ) → at + n < length l → b ≡ put l at (zeros n) → set b (at + n) 0 ≡ put l at (zeros (n + 1))
 zeroed-next l b at n h e =
     rw (e, ← zeros-add n 1, zeros-one) (store-next l (zeros n) at (at + n) 0 (omega (arith, length-zeros n)) h)
+
+-- TWO MOVES OF NEIGHBOURING BYTES are one: b is after the first, c after the second.
+
+module _ (to from m n count : ℕ) (all : m + n ≡ count) where
+  pub copied-twice : (d s b c : List ℕ) → to + count ≤ length d → from + count ≤ length s
+      → b ≡ put d to (part s from m) → c ≡ put b (to + m) (part s (from + m) n) → c ≡ put d to (part s from count)
+  copied-twice d s b c hd hs eb ec =
+      let k : length (part s from m) ≡ m = length-part s from m (omega arith) in
+      ec ∙ ap (λ (x : List ℕ). put x (to + m) (part s (from + m) n)) eb ∙ put-put d (part s from m) (part s (from + m) n) to (to + m) (omega arith) (omega arith) ∙ ap (put d to) (sym (part-append s from m n) ∙ ap (part s from) all)
+
+  pub moved-down-twice : (l b c : List ℕ) → to ≤ from → from + count ≤ length l
+      → b ≡ put l to (part l from m) → c ≡ put b (to + m) (part b (from + m) n) → c ≡ put l to (part l from count)
+  moved-down-twice l b c h k eb ec =
+      let j : length (part l from m) ≡ m = length-part l from m (omega arith) in
+      let e : part b (from + m) n ≡ part l (from + m) n = ap (λ (x : List ℕ). part x (from + m) n) eb ∙ part-put-after l (part l from m) to (from + m) n (omega arith) (omega arith) in
+      copied-twice l l b c (omega arith) k eb (ec ∙ ap (put b (to + m)) e)
+
+  pub moved-up-twice : (l b c : List ℕ) → from ≤ to → to + count ≤ length l
+      → b ≡ put l (to + m) (part l (from + m) n) → c ≡ put b to (part b from m) → c ≡ put l to (part l from count)
+  moved-up-twice l b c h k eb ec =
+      let j : length (part l from m) ≡ m = length-part l from m (omega arith) in
+      let e : part b from m ≡ part l from m = ap (λ (x : List ℕ). part x from m) eb ∙ part-put-before l (part l (from + m) n) (to + m) from m (omega arith) (omega arith) in
+      ec ∙ ap (put b to) e ∙ ap (λ (x : List ℕ). put x to (part l from m)) eb ∙ put-put-front l (part l from m) (part l (from + m) n) to (to + m) (omega arith) (omega arith) ∙ ap (put l to) (sym (part-append l from m n) ∙ ap (part l from) all)

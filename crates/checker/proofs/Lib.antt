@@ -1,4 +1,5 @@
 pub mod VerdictLaws
+pub mod KindLaws
 pub mod ProgramVerdictLaws
 pub mod TermVerdictLaws
 pub mod TermOpensLaws

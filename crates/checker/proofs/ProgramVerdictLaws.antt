@@ -9,23 +9,21 @@ use lib.Seq.{drop-length}
 use native.Mathlib.Omega.{arith}
 use Rattle.rules.specs.Scope.{blockInRange, boundInRange, exprInRange, inRange}
 use Rattle.rules.specs.Syntax.{Block, Bound, Expr, lit}
+use Rattle.record.specs.declared.Class.{Class}
+use Rattle.record.specs.Class.{classOf}
 use Rattle.record.specs.Command.{joined, oneAssign, oneLoop, oneNest}
-use Rattle.record.specs.Front.{Front, firstLength}
+use Rattle.record.specs.Front.{Front, firstLength, u16}
 use Rattle.record.specs.Program.{decodeBlock}
 use Rattle.record.proofs.BetweenLaws.{between, drop-between, length-between, take-between}
 use Rattle.record.proofs.ExpressionReadLaws.{Variable, asExpr, boundExpr-range}
 use Rattle.record.proofs.FrontLaws.{first-bad, first-front, front-take}
-use Rattle.record.proofs.ProgramReadLaws.{append-range, decode-bad, decode-empty, decode-front}
+use Rattle.record.proofs.ProgramReadLaws.{append-range, decode-bad, decode-empty, decode-front, decode-other}
 use Rattle.checker.specs.declared.Verdict.{Verdict}
 use Rattle.checker.specs.declared.Verdict.the-variants.{Good, Malformed}
 use Rattle.checker.specs.Opens.{Opens}
 use Rattle.checker.specs.Verdict.{blockVerdict, rated, verdict, worse}
-use Rattle.checker.proofs.VerdictLaws.{worse-assoc, worse-comm, worse-good, worse-malformed}
-
-rated-and : (a b : Bool) → rated (a && b) ≡ worse (rated a) (rated b)
-rated-and true b = refl
-rated-and false true = refl
-rated-and false false = refl
+use Rattle.checker.proofs.KindLaws.{isProgram, not-command}
+use Rattle.checker.proofs.VerdictLaws.{rated-and, worse-assoc, worse-comm, worse-good, worse-malformed}
 
 -- WHAT THE PARTS HOLD
 
@@ -78,6 +76,16 @@ module _ (k : ℕ) where
     most = omega arith;
     both = sym e ∙ sym (ap (worse v) (empty-verdict (drop (length l) l) (ap length (drop-length l))) ∙ worse-good v);
   }
+
+  -- a head of no command
+  pub opens-none : (l : List ℕ) {v : Verdict} {n : ℕ} → (v ≡ Malformed) × (n ≡ length l) → 4 ≤ length l → decodeBlock l ≡ none → Opens k l v n
+  opens-none l e h d = rw (e .0, e .1) (opens-all l Malformed h (sym (ap (blockVerdict k) d)))
+
+  pub opens-class : (l : List ℕ) {v : Verdict} {n : ℕ} → (v ≡ Malformed) × (n ≡ length l) → Front l (length l)
+      → (c : Class) → classOf (u16 l 2) ≡ c → isProgram c ≡ false → Opens k l v n
+  opens-class l e f c q h =
+      let other = not-command (u16 l 2) c q h in
+      opens-none l e (f .least) (decode-other l f (other 1 (omega arith) (omega arith)) (other 2 (omega arith) (omega arith)) (other 3 (omega arith) (omega arith)))
 
 -- A ROW OF COMMANDS from `at` up to `end`
 

@@ -1,4 +1,5 @@
 pub mod Verdict
 pub mod Answer
 pub mod Opens
+pub mod TermKind
 pub mod TermVerdict

@@ -17,6 +17,7 @@ ghost use Rattle.record.specs.Program.{decodeBlock, readBound, readExpr};
 ghost use Rattle.checker.specs.Answer.{asChecked};
 ghost use Rattle.checker.specs.Opens.{Opens};
 ghost use Rattle.checker.specs.Verdict.{blockVerdict, verdict};
+ghost use Rattle.checker.specs.declared.Verdict.the-variants.{Malformed};
 
 // The head of a command: what it was found to be, and where the commands inside it start.
 struct Head {
@@ -71,16 +72,23 @@ fn check_assignment(s: &[u8], k: u32) -> Verdict
     )
 }
 
+// The head of a record that is no command: it takes all of the record, and nothing is inside it.
+fn no_command(length: usize) -> Head
+    ensures { λ r. ⌜ (r .verdict ≡ Malformed) × (r .inner ≡ length) ⌝ }
+{
+    Head {
+        verdict: Verdict::Malformed,
+        inner: length,
+    }
+}
+
 fn open_loop(s: &[u8], k: u32) -> Head
     requires { ⌜ Front (now s) (length (now s)) ⌝ }
     requires { ⌜ u16 (now s) 2 ≡ 3 ⌝ }
     ensures { λ r. ⌜ Opens k (now (s .entry)) (r .verdict) (r .inner) ⌝ }
 {
     if s.len() < 20 {
-        return Head {
-            verdict: Verdict::Malformed,
-            inner: s.len(),
-        };
+        return no_command(s.len());
     }
     if record::is_only(&s[16..], 1) {
         let index = check_variable(buffer::get_u32(s, 4), k);
@@ -89,33 +97,32 @@ fn open_loop(s: &[u8], k: u32) -> Head
             inner: 20,
         }
     } else {
-        Head {
-            verdict: Verdict::Malformed,
-            inner: s.len(),
-        }
+        no_command(s.len())
     }
 }
 
-// A head with nothing inside it, or of no command, ends where the record ends.
+// The class decides, then the kind: a program's own, 7, is no command's. A head with nothing inside it ends where the record ends.
 fn open_command(s: &[u8], k: u32) -> Head
     requires { ⌜ Front (now s) (length (now s)) ⌝ }
     ensures { λ r. ⌜ Opens k (now (s .entry)) (r .verdict) (r .inner) ⌝ }
 {
     let kind = buffer::get_u16(s, 2);
-    match kind {
-        1 => Head {
-            verdict: Verdict::Good,
-            inner: 4,
+    match record::class_of(kind) {
+        record::Class::Program => match kind {
+            1 => Head {
+                verdict: Verdict::Good,
+                inner: 4,
+            },
+            2 => Head {
+                verdict: check_assignment(s, k),
+                inner: s.len(),
+            },
+            3 => open_loop(s, k),
+            _ => no_command(s.len()),
         },
-        2 => Head {
-            verdict: check_assignment(s, k),
-            inner: s.len(),
-        },
-        3 => open_loop(s, k),
-        _ => Head {
-            verdict: Verdict::Malformed,
-            inner: s.len(),
-        },
+        record::Class::Expression => no_command(s.len()),
+        record::Class::Term => no_command(s.len()),
+        record::Class::Malformed => no_command(s.len()),
     }
 }
 

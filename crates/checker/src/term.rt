@@ -9,6 +9,7 @@ ghost use Rattle.record.specs.Term.{onlyAtom, decodeAtoms};
 ghost use Rattle.record.specs.Answers.{checkTerm};
 ghost use Rattle.checker.specs.Answer.{asChecked};
 ghost use Rattle.checker.specs.Verdict.{verdict};
+ghost use Rattle.checker.specs.TermKind.{termKind};
 ghost use Rattle.checker.specs.TermVerdict.{termVerdict, OpensTerm};
 use super::Checked;
 use super::Verdict;
@@ -31,13 +32,27 @@ pub enum Opened {
     Two(usize),
 }
 
+// The class decides, then each function looks for its kinds: the kind of the one term's record that s is; 0, which is no kind,
+// where it is not one record, or one of another class.
+fn term_kind(s: &[u8]) -> usize
+    ensures { λ r. ⌜ r ≡ termKind (now (s .entry)) ⌝ }
+{
+    let kind = record_kind(s);
+    match record::class_of(kind) {
+        record::Class::Term => kind,
+        record::Class::Program => 0,
+        record::Class::Expression => 0,
+        record::Class::Malformed => 0,
+    }
+}
+
 fn check_atom(s: &[u8], k: u32) -> Verdict
     ensures { λ r. ⌜ r ≡ verdict (atomInRange k) (onlyAtom (now (s .entry))) ⌝ }
 {
     if s.len() != 8 {
         return Verdict::Malformed;
     }
-    let kind = record_kind(s);
+    let kind = term_kind(s);
     match kind {
         32 => Verdict::Good,
         33 => check_variable(get_u32(s, 4), k),
@@ -64,7 +79,7 @@ fn check_atoms(s: &[u8], k: u32) -> Verdict
 fn check_tuple(s: &[u8], k: u32) -> Verdict
     ensures { λ r. ⌜ r ≡ verdict (atomsInRange k) (onlyTuple k (now (s .entry))) ⌝ }
 {
-    if record_kind(s) != 36 {
+    if term_kind(s) != 36 {
         return Verdict::Malformed;
     }
     check_atoms(&s[4..], k)
@@ -74,7 +89,7 @@ fn check_tuple(s: &[u8], k: u32) -> Verdict
 fn check_simple(s: &[u8], k: u32) -> Verdict
     ensures { λ r. ⌜ r ≡ verdict (simpleInRange k) (onlySimple (now (s .entry))) ⌝ }
 {
-    let kind = record_kind(s);
+    let kind = term_kind(s);
     match kind {
         34..=35 => check_atom(&s[4..], k),
         _ => check_atom(s, k),
@@ -128,7 +143,7 @@ fn open_rec(s: &[u8], k: u32) -> Opened
 fn open_term(s: &[u8], k: u32) -> Opened
     ensures { λ r. ⌜ OpensTerm k (now (s .entry)) r ⌝ }
 {
-    let kind = record_kind(s);
+    let kind = term_kind(s);
     match kind {
         36 => Opened::Whole(check_atoms(&s[4..], k)),
         37 => open_let_one(s, k),

@@ -1,71 +1,47 @@
--- After i turns the first i bytes stand at their place.
+-- Two copies of neighbouring bytes are one.
+use borrow.Author.Needs.{needs}
 use Rattle.buffer.proofs.copy.Statement.{statement}
 use Rattle.buffer.proofs.copy.Tie as tie
-use Prim.Native.Nat.{_-_, _≤_}
-use mathlib.Core.Path.{_≡_, refl, sym}
+use Prim.Native.Nat.{_-_}
 use native.Mathlib.Omega.{arith}
-use borrow.Author.Needs.{needs}
-use lib.ListN.{length, length-set}
-use Rattle.buffer.specs.Slice.{put, part}
-use Rattle.buffer.proofs.SliceLaws.{put-nil, copied-next}
+use Rattle.buffer.proofs.SliceLaws.{copied-twice}
 
-abbrev Inv-loop : tie.InvT-loop
-Inv-loop src from dst₀ to count i₀ dst i =
-    (i ≤ count) × (length dst ≡ length dst₀) × (dst ≡ put dst₀ to (part src from i))
+before-aligned-requires : tie.Need-before-aligned-requires
+before-aligned-requires c κs = search needs
 
-abbrev μ-loop : tie.MeasureT-loop
-μ-loop src from dst₀ to count i₀ dst i = count - i
+copy-bytes-requires : tie.Need-copy-bytes-requires
+copy-bytes-requires c κs = search needs
 
-loop-holds : tie.Need-loop-holds Inv-loop μ-loop
-unfolding part
-loop-holds c = (omega arith, refl, sym (put-nil (c .args .dst .now) (c .args .to)))
+add-copy-bytes : tie.Need-add-copy-bytes
+add-copy-bytes c = search needs
 
-add-dst : tie.Need-add-dst Inv-loop μ-loop
-add-dst c = search needs
+add-copy-bytes-2 : tie.Need-add-copy-bytes-2
+add-copy-bytes-2 c = search needs
 
-shared-slice-read-dst : tie.Need-shared-slice-read-dst Inv-loop μ-loop
-shared-slice-read-dst c = search needs
+sub-copy-bytes : tie.Need-sub-copy-bytes
+sub-copy-bytes c = search needs
 
-add-dst-2 : tie.Need-add-dst-2 Inv-loop μ-loop
-add-dst-2 c = search needs
+copy-bytes-requires-2 : tie.Need-copy-bytes-requires-2
+copy-bytes-requires-2 c κs = search needs
 
-slice-write-dst : tie.Need-slice-write-dst Inv-loop μ-loop
-slice-write-dst c = search needs
+same-length : tie.Need-same-length
+same-length c = search needs
 
-add-i : tie.Need-add-i Inv-loop μ-loop
-add-i c = search needs
-
-loop-less : tie.Need-loop-less Inv-loop μ-loop
-loop-less c = search needs
-
-loop-again : tie.Need-loop-again Inv-loop μ-loop
-loop-again c =
-    let a = c .before .before .before .args in
-    let h = c .before .before .loop in
-    let turn = copied-next (a .dst .now) (a .src .now) (h .dst) (a .to) (a .from) (h .i) (omega arith) (omega arith) (h .inv .2) in
-    (omega arith, simp length-set (h .inv .1), turn)
-
-same-length : tie.Need-same-length Inv-loop μ-loop
-same-length c = c .before .loop .inv .1
-
-returns : tie.Need-returns Inv-loop μ-loop
+returns : tie.Need-returns
 returns c =
-    let e : c .before .loop .i ≡ c .before .before .args .count = omega arith in
-    rw e at (c .before .loop .inv .2)
+    let a = c .before .before .before .before .before .before .before .before .before .before .before .args in
+    let h = c .before .before .before .before .before .before .before .before .before-aligned in
+    copied-twice (a .to) (a .from) (h .result) (a .count - h .result) (a .count) (omega arith) (a .dst .now) (a .src .now) _ _ (c .before .before .before .before .before .before .before .before .before .before .before .pre .1) (c .before .before .before .before .before .before .before .before .before .before .before .pre .0) (c .before .before .before .before .before .before .copy-bytes .ensures) (c .before .before .copy-bytes2 .ensures)
 
 pub copy-spec : {M : Type 1} → statement M
 copy-spec =
     tie.close
     (tie.spec
-    Inv-loop
-    μ-loop
-    loop-holds
-    add-dst
-    shared-slice-read-dst
-    add-dst-2
-    slice-write-dst
-    add-i
-    loop-less
-    loop-again
+    before-aligned-requires
+    copy-bytes-requires
+    add-copy-bytes
+    add-copy-bytes-2
+    sub-copy-bytes
+    copy-bytes-requires-2
     same-length
     returns)

@@ -1,70 +1,47 @@
--- After i turns the first i bytes stand at their place. What is still to be read lies behind all that was written.
+-- Two moves of neighbouring bytes are one.
+use borrow.Author.Needs.{needs}
 use Rattle.buffer.proofs.move_down.Statement.{statement}
 use Rattle.buffer.proofs.move_down.Tie as tie
-use Prim.Native.Nat.{_-_, _≤_}
-use mathlib.Core.Path.{_≡_, refl, sym}
+use Prim.Native.Nat.{_-_}
 use native.Mathlib.Omega.{arith}
-use borrow.Author.Needs.{needs}
-use lib.ListN.{length, length-set}
-use Rattle.buffer.specs.Slice.{put, part}
-use Rattle.buffer.proofs.SliceLaws.{put-nil, moved-down-next}
+use Rattle.buffer.proofs.SliceLaws.{moved-down-twice}
 
-abbrev Inv-loop : tie.InvT-loop
-Inv-loop buf₀ from to count i₀ buf i = (i ≤ count) × (length buf ≡ length buf₀) × (buf ≡ put buf₀ to (part buf₀ from i))
+before-aligned-requires : tie.Need-before-aligned-requires
+before-aligned-requires c κs = search needs
 
-abbrev μ-loop : tie.MeasureT-loop
-μ-loop buf₀ from to count i₀ buf i = count - i
+move-bytes-down-requires : tie.Need-move-bytes-down-requires
+move-bytes-down-requires c κs = search needs
 
-loop-holds : tie.Need-loop-holds Inv-loop μ-loop
-unfolding part
-loop-holds c = (omega arith, refl, sym (put-nil (c .args .buf .now) (c .args .to)))
+add-move-bytes-down : tie.Need-add-move-bytes-down
+add-move-bytes-down c = search needs
 
-add-buf : tie.Need-add-buf Inv-loop μ-loop
-add-buf c = search needs
+add-move-bytes-down-2 : tie.Need-add-move-bytes-down-2
+add-move-bytes-down-2 c = search needs
 
-slice-read-buf : tie.Need-slice-read-buf Inv-loop μ-loop
-slice-read-buf c = search needs
+sub-move-bytes-down : tie.Need-sub-move-bytes-down
+sub-move-bytes-down c = search needs
 
-add-buf-2 : tie.Need-add-buf-2 Inv-loop μ-loop
-add-buf-2 c = search needs
+move-bytes-down-requires-2 : tie.Need-move-bytes-down-requires-2
+move-bytes-down-requires-2 c κs = search needs
 
-slice-write-buf : tie.Need-slice-write-buf Inv-loop μ-loop
-slice-write-buf c = search needs
+same-length : tie.Need-same-length
+same-length c = search needs
 
-add-i : tie.Need-add-i Inv-loop μ-loop
-add-i c = search needs
-
-loop-less : tie.Need-loop-less Inv-loop μ-loop
-loop-less c = search needs
-
-loop-again : tie.Need-loop-again Inv-loop μ-loop
-loop-again c =
-    let a = c .before .before .before .args in
-    let h = c .before .before .loop in
-    let turn = moved-down-next (a .buf .now) (h .buf) (a .to) (a .from) (h .i) (omega arith) (omega arith) (h .inv .2) in
-    (omega arith, simp length-set (h .inv .1), turn)
-
-same-length : tie.Need-same-length Inv-loop μ-loop
-same-length c = c .before .loop .inv .1
-
-returns : tie.Need-returns Inv-loop μ-loop
+returns : tie.Need-returns
 returns c =
-    let e : c .before .loop .i ≡ c .before .before .args .count = omega arith in
-    rw e at (c .before .loop .inv .2)
+    let a = c .before .before .before .before .before .before .before .before .before .before .args in
+    let h = c .before .before .before .before .before .before .before .before .before-aligned in
+    moved-down-twice (a .to) (a .from) (h .result) (a .count - h .result) (a .count) (omega arith) (a .buf .now) _ _ (c .before .before .before .before .before .before .before .before .before .before .pre .0) (c .before .before .before .before .before .before .before .before .before .before .pre .1) (c .before .before .before .before .before .before .move-bytes-down .ensures) (c .before .before .move-bytes-down2 .ensures)
 
 pub move-down-spec : {M : Type 1} → statement M
 move-down-spec =
     tie.close
     (tie.spec
-    Inv-loop
-    μ-loop
-    loop-holds
-    add-buf
-    slice-read-buf
-    add-buf-2
-    slice-write-buf
-    add-i
-    loop-less
-    loop-again
+    before-aligned-requires
+    move-bytes-down-requires
+    add-move-bytes-down
+    add-move-bytes-down-2
+    sub-move-bytes-down
+    move-bytes-down-requires-2
     same-length
     returns)

@@ -5,39 +5,34 @@ use Rattle.checker.proofs.term.check_atom.Reads as reads
 use Rattle.checker.proofs.term.check_atom.Lts as lts
 use Rattle.buffer.proofs.get_u32.Reads as get-u32-reads
 use Rattle.checker.proofs.check_variable.Reads as check-variable-reads
-use Rattle.checker.proofs.record_kind.Reads as record-kind-reads
+use Rattle.checker.proofs.term.term_kind.Reads as term-kind-reads
 use mathlib.Core.Path.{ap, sym, _∙_}
 use Rattle.rules.specs.Scope.{atomInRange, inRange}
 use Rattle.record.proofs.TermReadLaws.{onlyAtom-long, onlyAtom-num, onlyAtom-other, onlyAtom-ref}
 use Rattle.checker.specs.Verdict.{rated}
+use Rattle.checker.proofs.KindLaws.{record-termKind, termKind-record}
 use Rattle.checker.proofs.VerdictLaws.{verdict-none, verdict-some}
 use native.Mathlib.Omega.{arith}
 
--- src/term.rt:32:9
 returns : tie.Need-returns
 returns c =
     sym (verdict-none (atomInRange (c .before .before .args .k)) _ (onlyAtom-long (c .before .before .args .s .now) (c .if1 .taken)))
 
--- src/term.rt:34:9
-record-kind-requires : tie.Need-record-kind-requires
-record-kind-requires c κs = search needs
+term-kind-requires : tie.Need-term-kind-requires
+term-kind-requires c κs = search needs
 
--- src/term.rt:37:33
 get-u32-requires : tie.Need-get-u32-requires
 get-u32-requires c κs = search needs
 
--- src/term.rt:37:15
 check-variable-requires : tie.Need-check-variable-requires
 check-variable-requires c κs = search needs
 
--- src/term.rt:28:1
 returns-2 : tie.Need-returns-2
 unfolding atomInRange
 returns-2 c =
     let a = c .before .before .before .before .args in
-    sym (verdict-some (atomInRange (a .k)) _ _ (onlyAtom-num (a .s .now) (c .before .before .if1 .left) (sym (c .before .record-kind .ensures) ∙ c .match .keys1)))
+    sym (verdict-some (atomInRange (a .k)) _ _ (onlyAtom-num (a .s .now) (c .before .before .if1 .left) (termKind-record (a .s .now) 32 (omega arith) (sym (c .before .term-kind .ensures) ∙ c .match .keys1))))
 
--- src/term.rt:28:1
 returns-3 : tie.Need-returns-3
 unfolding atomInRange
 returns-3 c =
@@ -45,20 +40,20 @@ returns-3 c =
     let v = c .before .get-u32 in
     c .check-variable .ensures
     ∙ ap (λ x. rated (inRange (a .k) x)) (v .ensures)
-    ∙ sym (verdict-some (atomInRange (a .k)) _ _ (onlyAtom-ref (a .s .now) (c .before .before .before .before .if1 .left) (sym (c .before .before .before .record-kind .ensures) ∙ c .before .before .match .keys2)))
+    ∙ sym (verdict-some (atomInRange (a .k)) _ _ (onlyAtom-ref (a .s .now) (c .before .before .before .before .if1 .left) (termKind-record (a .s .now) 33 (omega arith) (sym (c .before .before .before .term-kind .ensures) ∙ c .before .before .match .keys2))))
 
--- src/term.rt:28:1
 returns-4 : tie.Need-returns-4
 returns-4 c =
     let a = c .before .before .before .before .args in
-    sym (verdict-none (atomInRange (a .k)) _ (onlyAtom-other (a .s .now) (λ e. omega arith) (λ e. omega arith)))
+    let kind = c .before .term-kind .ensures in
+    sym (verdict-none (atomInRange (a .k)) _ (onlyAtom-other (a .s .now) (λ e. let q = record-termKind (a .s .now) 32 (omega arith) (omega arith) e in omega arith) (λ e. let q = record-termKind (a .s .now) 33 (omega arith) (omega arith) e in omega arith)))
 
 pub check-atom-spec : {M : Type 1} → statement M
 check-atom-spec =
     tie.close
     (tie.spec
     returns
-    record-kind-requires
+    term-kind-requires
     get-u32-requires
     check-variable-requires
     returns-2

@@ -3,7 +3,7 @@ use Rattle.checker.proofs.term.check_simple.Statement.{statement}
 use Rattle.checker.proofs.term.check_simple.Tie as tie
 use Rattle.checker.proofs.term.check_simple.Reads as reads
 use Rattle.checker.proofs.term.check_simple.Lts as lts
-use Rattle.checker.proofs.record_kind.Reads as record-kind-reads
+use Rattle.checker.proofs.term.term_kind.Reads as term-kind-reads
 use Rattle.checker.proofs.term.check_atom.Reads as check-atom-reads
 use mathlib.Core.Path.{ap, sym, _∙_}
 use native.Mathlib.Omega.{arith}
@@ -11,52 +11,47 @@ use Rattle.record.proofs.AloneLaws.{recordKind-least, take-rest}
 use Rattle.rules.specs.Scope.{atomInRange}
 use Rattle.record.specs.Term.{onlyAtom}
 use Rattle.checker.specs.Verdict.{verdict}
+use Rattle.checker.proofs.KindLaws.{record-termKind, termKind-record}
 use Rattle.checker.proofs.TermOpensLaws.{plain-verdict, wrapped-verdict}
 use mathlib.Core.Logic.{⊎-elim}
 
--- src/term.rt:71:9
-record-kind-requires : tie.Need-record-kind-requires
-record-kind-requires c κs = search needs
+term-kind-requires : tie.Need-term-kind-requires
+term-kind-requires c κs = search needs
 
--- src/term.rt:73:31
 sub-check-atom : tie.Need-sub-check-atom
 sub-check-atom c =
-    recordKind-least (c .before .before .before .before .args .s .now) (c .before .before .record-kind .result) (sym (c .before .before .record-kind .ensures)) (omega arith)
+    recordKind-least (c .before .before .before .before .args .s .now) (c .before .before .term-kind .result) (termKind-record (c .before .before .before .before .args .s .now) (c .before .before .term-kind .result) (omega arith) (sym (c .before .before .term-kind .ensures))) (omega arith)
 
--- src/term.rt:73:31
 part-check-atom-start : tie.Need-part-check-atom-start
 part-check-atom-start c =
-    recordKind-least (c .before .before .before .before .args .s .now) (c .before .before .record-kind .result) (sym (c .before .before .record-kind .ensures)) (omega arith)
+    recordKind-least (c .before .before .before .before .args .s .now) (c .before .before .term-kind .result) (termKind-record (c .before .before .before .before .args .s .now) (c .before .before .term-kind .result) (omega arith) (sym (c .before .before .term-kind .ensures))) (omega arith)
 
--- src/term.rt:73:31
 part-check-atom-end : tie.Need-part-check-atom-end
 part-check-atom-end c = search needs
 
--- src/term.rt:73:20
 check-atom-requires : tie.Need-check-atom-requires
 check-atom-requires c κs = search needs
 
--- src/term.rt:74:14
 check-atom-requires-2 : tie.Need-check-atom-requires-2
 check-atom-requires-2 c κs = search needs
 
--- src/term.rt:68:1
 returns : tie.Need-returns
 returns c =
     let s = c .before .before .before .before .before .before .args .s .now in
+    let kind = c .before .before .before .before .term-kind in
+    let e = termKind-record s (kind .result) (omega arith) (sym (kind .ensures)) in
     c .check-atom .ensures ∙ ap (λ b. verdict (atomInRange (c .before .before .before .before .before .before .args .k)) (onlyAtom b)) (take-rest 4 s) ∙ sym (wrapped-verdict (c .before .before .before .before .before .before .args .k) s (omega arith) (omega arith))
 
--- src/term.rt:68:1
 returns-2 : tie.Need-returns-2
 returns-2 c =
     c .check-atom2 .ensures
-    ∙ sym (plain-verdict (c .before .before .before .before .args .k) (c .before .before .before .before .args .s .now) (λ e. ⊎-elim (λ w. omega arith) (λ w. omega arith) (c .before .if1 .came)) (λ e. ⊎-elim (λ w. omega arith) (λ w. omega arith) (c .before .if1 .came)))
+    ∙ sym (plain-verdict (c .before .before .before .before .args .k) (c .before .before .before .before .args .s .now) (λ e. let q = record-termKind (c .before .before .before .before .args .s .now) 34 (omega arith) (omega arith) e in ⊎-elim (λ w. omega arith) (λ w. omega arith) (c .before .if1 .came)) (λ e. let q = record-termKind (c .before .before .before .before .args .s .now) 35 (omega arith) (omega arith) e in ⊎-elim (λ w. omega arith) (λ w. omega arith) (c .before .if1 .came)))
 
 pub check-simple-spec : {M : Type 1} → statement M
 check-simple-spec =
     tie.close
     (tie.spec
-    record-kind-requires
+    term-kind-requires
     sub-check-atom
     part-check-atom-start
     part-check-atom-end
