@@ -43,7 +43,7 @@ fn closed_atoms(buf: &[u8], at: usize, count: usize, bound: &[bool; 17]) -> bool
     true
 }
 
-pub fn closed_at(buf: &[u8], at: usize, k: u32) -> bool
+fn closed_at(buf: &[u8], at: usize, k: u32) -> bool
     requires { ⌜ ((t : Term) × RangedTerm (now buf) at k t) ⌝ }
     ensures { λ r. ⌜ ((t : Term) → RangedTerm (now (buf .entry)) at k t → r ≡ closed t) ⌝ }
 {

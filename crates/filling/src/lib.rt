@@ -1,6 +1,6 @@
 // Substitution in place, the test for free variables, and a finished term's values. Works on a checked term.
 pub mod closed;
 pub mod numerals;
-pub mod path;
+mod path;
 pub mod substitution;
 pub mod values;

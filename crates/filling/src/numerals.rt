@@ -21,7 +21,7 @@ pub fn is_finished(buf: &[u8], used: usize) -> bool
 }
 
 // The numeral number i of the row of atoms at an index.
-pub fn numeral(buf: &[u8], at: usize, i: usize) -> u32
+pub(crate) fn numeral(buf: &[u8], at: usize, i: usize) -> u32
     requires { ⌜ ((vs : List ℕ) × (AtomsAt (now buf) at (map num vs) × (i < length vs))) ⌝ }
     ensures { λ r. ⌜ ((vs : List ℕ) → AtomsAt (now (buf .entry)) at (map num vs) → i < length vs → r ≡ getD vs i 0) ⌝ }
 {

@@ -29,7 +29,7 @@ pub fn only(x: usize, v: u32) -> [u64; 17]
     values
 }
 
-pub fn from_store(store: &[u32]) -> [u64; 17]
+pub(crate) fn from_store(store: &[u32]) -> [u64; 17]
     requires { ⌜ length (now store) ≤ 16 ⌝ }
     ensures { λ r. ⌜ (length r ≡ 17) × (substitutionOf r ≡ fromStore (now (store .entry))) ⌝ }
 {
