@@ -127,3 +127,26 @@ module _ (l : List ℕ) (at : ℕ) where
     pub word-short : headAt l at ≡ Short → wordAt l at offset ≡ Out
     unfolding wordIn
     word-short e = word-is Short e
+
+    told-word : (b : Bool) (w v : ℕ) → wordIf b w ≡ Word v → (b ≡ true) × (w ≡ v)
+    unfolding wordIf
+    told-word true w v e = (refl, cc)
+    told-word false w v e = let z : _≡_ {A = ℕ} 0 1 = cc in absurd (omega arith)
+
+    told-out : (b : Bool) (w : ℕ) → wordIf b w ≡ Out → b ≡ false
+    unfolding wordIf
+    told-out true w e = let z : _≡_ {A = ℕ} 0 1 = cc in absurd (omega arith)
+    told-out false w e = refl
+
+    module _ (n k : ℕ) (stands : headAt l at ≡ Record n k) where
+      word-in : wordAt l at offset ≡ wordIf (leb (offset + 4) n) (val (part l (at + offset) 4))
+      unfolding wordIn
+      word-in = word-is (Record n k) stands
+
+      pub word-tells : (v : ℕ) → wordAt l at offset ≡ Word v → (offset + 4 ≤ n) × (val (part l (at + offset) 4) ≡ v)
+      word-tells v e =
+          let p = told-word (leb (offset + 4) n) (val (part l (at + offset) 4)) v (sym word-in ∙ e) in
+          (leb-true (offset + 4) n (p .0), p .1)
+
+      pub out-tells : wordAt l at offset ≡ Out → n < offset + 4
+      out-tells e = leb-false (offset + 4) n (told-out (leb (offset + 4) n) (val (part l (at + offset) 4)) (sym word-in ∙ e))
