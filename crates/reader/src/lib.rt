@@ -22,7 +22,7 @@ pub enum Cell {
     Out,
 }
 
-pub fn header_at(bytes: &[u8], at: usize) -> Head
+fn header_at(bytes: &[u8], at: usize) -> Head
     ensures { λ r. ⌜ r ≡ headAt (now (bytes .entry)) at ⌝ }
 {
     if bytes.len() <= at {
@@ -43,7 +43,7 @@ pub fn header_at(bytes: &[u8], at: usize) -> Head
 }
 
 // The offset counts from the start of the record, its length and kind included.
-pub fn word_at(bytes: &[u8], at: usize, offset: usize) -> Cell
+fn word_at(bytes: &[u8], at: usize, offset: usize) -> Cell
     ensures { λ r. ⌜ r ≡ wordAt (now (bytes .entry)) at offset ⌝ }
 {
     match header_at(bytes, at) {
@@ -59,7 +59,7 @@ pub fn word_at(bytes: &[u8], at: usize, offset: usize) -> Cell
 }
 
 // A reader stays where it is where no whole record stands.
-pub fn next_at(bytes: &[u8], at: usize) -> usize
+fn next_at(bytes: &[u8], at: usize) -> usize
     ensures { λ r. ⌜ r ≡ nextAt (now (bytes .entry)) at ⌝ }
 {
     match header_at(bytes, at) {
