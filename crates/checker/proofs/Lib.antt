@@ -1,3 +1,4 @@
+pub mod HeaderLaws
 pub mod VerdictLaws
 pub mod KindLaws
 pub mod ProgramVerdictLaws

@@ -2,6 +2,8 @@
 pub mod program;
 pub mod term;
 
+use reader::Cell;
+use reader::Head;
 ghost use mathlib.Core.Path.{_≡_};
 ghost use Rattle.rules.specs.Scope.{inRange};
 ghost use Rattle.record.specs.Alone.{recordKind};
@@ -75,7 +77,7 @@ fn answer(number: u32, k: u32) -> Checked
     }
 }
 
-// The first of rows 1 to 3 that applies to a record of this kind; 0 where none does.
+// The first of rows 1 to 3 that applies to a record of this kind; 0 where none does. Under 8 bytes a record has no k.
 fn check_header(buf: &[u8], used: usize, kind: usize) -> u32
     ensures { λ r. ⌜ r ≡ headerRow kind (now (buf .entry)) used ⌝ }
 {
@@ -85,23 +87,30 @@ fn check_header(buf: &[u8], used: usize, kind: usize) -> u32
     if buf.len() < used {
         return 1;
     }
-    if used < 8 {
-        return 2;
+    match reader::head_of(buf) {
+        Head::Record(length, found) => {
+            if found != kind {
+                return 2;
+            }
+            if length != used {
+                return 2;
+            }
+            match reader::word_of(buf, 4) {
+                Cell::Word(k) => {
+                    if k < 1 {
+                        return 3;
+                    }
+                    if 16 < k {
+                        return 3;
+                    }
+                    0
+                }
+                Cell::Out => 2,
+            }
+        }
+        Head::End => 2,
+        Head::Short => 2,
     }
-    if buffer::get_u16(buf, 2) != kind {
-        return 2;
-    }
-    if buffer::get_u16(buf, 0) != used {
-        return 2;
-    }
-    let k = buffer::get_u32(buf, 4);
-    if k < 1 {
-        return 3;
-    }
-    if 16 < k {
-        return 3;
-    }
-    0
 }
 
 // The kind of the one record that s is; 0, which is no kind, where it is not one record.
