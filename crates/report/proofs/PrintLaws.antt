@@ -2,15 +2,18 @@
 -- to be written at first.
 use Prim.Native.Nat.{_%_, _+_, _-_, _/_, _<_, _≤_, ℕ, suc}
 use mathlib.Core.Path.{_≡_, ap, refl, sym, _∙_}
-use mathlib.Core.List.{_++_, List, [], _∷_}
+use mathlib.Core.List.{_++_, List, [], _∷_, append-assoc}
 use native.Mathlib.Omega.{arith}
 use native.Mathlib.Numerals.{add-one}
-use lib.ListN.{drop, getD, length, length-append, set}
-use lib.Seq.{drop-cons, drop-length, take-length}
+use lib.ListN.{drop, getD, length, length-append, set, take}
+use lib.Seq.{drop-cons, drop-length, take-at, take-length}
 use Rattle.buffer.specs.Slice.{part, put}
-use Rattle.buffer.proofs.SliceLaws.{put-nil, put-put, put-put-front, put-sets}
+use Rattle.buffer.proofs.SliceLaws.{length-put, put-nil, put-put, put-put-front, put-sets}
+use Rattle.buffer.proofs.StoresLaws.{stores-2, stores-4}
+use Rattle.rules.specs.Run.{refused}
+use Rattle.run.specs.RunAnswer.{RunAnswer}
 use Rattle.report.specs.Decimal.{decimal, digit}
-use Rattle.report.specs.Line.{spaced, spacedAll}
+use Rattle.report.specs.Line.{outcomeWord, ranLine, refusedLine, spaced, spacedAll}
 use Rattle.report.proofs.DecimalLaws.{decimal-large, decimal-small, digits-large, digits-small}
 
 -- The last digit of n is written, those of n / 10 in front of it are still to be.
@@ -70,3 +73,39 @@ values-done l vs place i e = ap (put l place) (values-none vs i e) ∙ put-nil l
 pub part-whole : (l : List ℕ) → part l 0 (length l) ≡ l
 unfolding part
 part-whole l = take-length l
+
+-- THE LINE, as neighbouring stores from the slice's start. Its first n bytes are read back.
+
+take-put : (l vs : List ℕ) (n : ℕ) → n ≡ length vs → take n (put l 0 vs) ≡ vs
+unfolding put
+take-put l vs n e = take-at vs (drop (0 + length vs) l) n (sym e)
+
+end-put : (l l₁ vs : List ℕ) (at c : ℕ) → l₁ ≡ put l 0 vs → at ≡ length vs → at < length l
+    → take (at + 1) (set l₁ at c) ≡ vs ++ (c ∷ [])
+end-put l l₁ vs at c e n b =
+    let k : length l₁ ≡ length l = ap (length {A = ℕ}) e ∙ length-put l vs 0 (omega arith) in
+    let s : set l₁ at c ≡ put l 0 (vs ++ (c ∷ [])) = stores-2 l l₁ (set l₁ at c) vs (c ∷ []) 0 at e (put-sets l₁ at (c ∷ []) (omega arith)) (omega arith) (omega arith) in
+    ap (take (at + 1)) s ∙ take-put l (vs ++ (c ∷ [])) (at + 1) (omega (arith, length-append vs (c ∷ [])))
+
+pub refused-put : (l l₁ : List ℕ) (end n : ℕ) → l₁ ≡ put l 0 (outcomeWord refused ++ spaced n) → end ≡ 0 + length (outcomeWord refused ++ spaced n) → end < length l
+    → take (end + 1) (set l₁ end 10) ≡ refusedLine n
+unfolding refusedLine
+refused-put l l₁ end n e k b =
+    end-put l l₁ (outcomeWord refused ++ spaced n) end 10 e (omega arith) b ∙ append-assoc (outcomeWord refused) (spaced n) (10 ∷ [])
+
+pub ran-put : (l l₁ l₂ l₃ : List ℕ) (s r : RunAnswer) (store : List ℕ) (first second end : ℕ)
+    → l₁ ≡ put l 0 (outcomeWord (s .outcome) ++ spaced (s .steps)) → first ≡ 0 + length (outcomeWord (s .outcome) ++ spaced (s .steps))
+    → l₂ ≡ put (set l₁ first 32) (first + 1) (outcomeWord (r .outcome) ++ spaced (r .steps))
+    → second ≡ first + 1 + length (outcomeWord (r .outcome) ++ spaced (r .steps))
+    → l₃ ≡ put l₂ second (spacedAll store) → end ≡ second + length (spacedAll store) → end < length l
+    → take (end + 1) (set l₃ end 10) ≡ ranLine s r store
+unfolding ranLine
+ran-put l l₁ l₂ l₃ s r store first second end e₁ n₁ e₂ n₂ e₃ n₃ b =
+    let a : List ℕ = outcomeWord (s .outcome) ++ spaced (s .steps) in
+    let c : List ℕ = outcomeWord (r .outcome) ++ spaced (r .steps) in
+    let k : length l₁ ≡ length l = ap (length {A = ℕ}) e₁ ∙ length-put l a 0 (omega arith) in
+    let m : set l₁ first 32 ≡ put l₁ first (32 ∷ []) = put-sets l₁ first (32 ∷ []) (omega arith) in
+    let w : l₃ ≡ put l 0 (a ++ ((32 ∷ []) ++ (c ++ spacedAll store))) =
+    stores-4 l l₁ (set l₁ first 32) l₂ l₃ a (32 ∷ []) c (spacedAll store) 0 first (first + 1) second e₁ m e₂ e₃ (sym n₁) refl (sym n₂) (omega arith) in
+    let n : length (a ++ ((32 ∷ []) ++ (c ++ spacedAll store))) ≡ length a + (1 + (length c + length (spacedAll store))) = simp length-append (omega arith) in
+    end-put l l₃ (a ++ ((32 ∷ []) ++ (c ++ spacedAll store))) end 10 w (omega arith) b ∙ simp append-assoc

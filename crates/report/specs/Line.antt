@@ -9,6 +9,7 @@ use Rattle.record.specs.Answers.{Wrote, padded}
 use Rattle.record.specs.Rows.{Row, firstRow, kOf, programRows, row}
 use Rattle.reducer.specs.RunReducer.{ReducerCall, runReducer}
 use Rattle.rules.specs.Run.{Outcome, isFinished, isOver, noRoom, refused, spent}
+use Rattle.run.specs.RunAnswer.{RunAnswer}
 use Rattle.stepper.specs.RunStepper.{StepperCall, runStepper}
 use Rattle.term.specs.Calls.{substituteCall, tooShort, translateCall, translated}
 use Rattle.report.specs.Decimal.{decimal}
@@ -88,14 +89,18 @@ spacedAll [] = []
 spacedAll (v ∷ vs) = spaced v ++ spacedAll vs
 
 -- The stepper's outcome and steps, the reducer's, the stepper's store.
-unfoldable pub ranLine : StepperCall → ReducerCall → List ℕ
-ranLine s r =
-    outcomeWord (s .answer .outcome) ++ (spaced (s .answer .steps) ++ (32 ∷ (outcomeWord (r .answer .outcome)
-    ++ (spaced (r .answer .steps) ++ (spacedAll (s .store) ++ (10 ∷ []))))))
+unfoldable pub ranLine : RunAnswer → RunAnswer → List ℕ → List ℕ
+ranLine s r store =
+    outcomeWord (s .outcome) ++ (spaced (s .steps) ++ (32 ∷ (outcomeWord (r .outcome)
+    ++ (spaced (r .steps) ++ (spacedAll store ++ (10 ∷ []))))))
+
+-- The word and the number.
+unfoldable pub refusedLine : ℕ → List ℕ
+refusedLine n = outcomeWord refused ++ (spaced n ++ (10 ∷ []))
 
 unfoldable pub lineBy : ℕ → List ℕ → List ℕ
-lineBy zero input = ranLine (stepperRun input) (reducerRun input)
-lineBy (suc n) input = outcomeWord refused ++ (spaced (suc n) ++ (10 ∷ []))
+lineBy zero input = ranLine (stepperRun input .answer) (reducerRun input .answer) (stepperRun input .store)
+lineBy (suc n) input = refusedLine (suc n)
 
 unfoldable pub line : List ℕ → List ℕ
 line input = lineBy (firstRow (lineRows input)) input

@@ -1,13 +1,15 @@
 // The parts of the line, each written into a lent slice at an index. What is given is the index behind what was written.
 ghost use mathlib.Core.Path.{_≡_};
+ghost use mathlib.Core.List.{_++_};
 ghost use Prim.Native.Nat.{_+_, _*_, _≤_};
-ghost use lib.ListN.{length};
+ghost use lib.ListN.{length, take};
 ghost use Rattle.buffer.specs.Slice.{put};
 ghost use Rattle.report.specs.Decimal.{decimal};
-ghost use Rattle.report.specs.Line.{outcomeWord, spaced, spacedAll};
-ghost use Rattle.run.specs.Represents.{asOutcome};
+ghost use Rattle.report.specs.Line.{outcomeWord, ranLine, refusedLine, spaced, spacedAll};
+ghost use Rattle.run.specs.Represents.{asOutcome, asRunAnswer};
 use buffer::copy;
 use run::Outcome;
+use run::RunEnd;
 
 // The number of digits.
 fn digits(n: u32) -> usize
@@ -79,4 +81,38 @@ pub fn put_outcome(out: &mut [u8], at: usize, o: Outcome) -> usize
         Outcome::Spent => put_word(out, at, b"spent"),
         Outcome::Refused => put_word(out, at, b"refused"),
     }
+}
+
+// An outcome and the number behind it.
+fn put_run(out: &mut [u8], at: usize, o: Outcome, n: u32) -> usize
+    requires { ⌜ at + 19 ≤ length (now out) ⌝ }
+    ensures { λ r. ⌜ (now (out .exit) ≡ put (now (out .entry)) at (outcomeWord (asOutcome o) ++ spaced n)) × (r ≡ at + length (outcomeWord (asOutcome o) ++ spaced n)) × (r ≤ at + 19) ⌝ }
+{
+    let word = put_outcome(out, at, o);
+    put_spaced(out, word, n)
+}
+
+// The line of a refused input. The first r bytes are the line.
+pub fn put_refused(out: &mut [u8], number: u32) -> usize
+    requires { ⌜ 20 ≤ length (now out) ⌝ }
+    ensures { λ r. ⌜ take r (now (out .exit)) ≡ refusedLine number ⌝ }
+{
+    let end = put_run(out, 0, Outcome::Refused, number);
+    out[end] = 10;
+    end + 1
+}
+
+// The line of the two runs.
+pub fn put_ran(out: &mut [u8], stepper: RunEnd, reducer: RunEnd, store: &[u32]) -> usize
+    requires { ⌜ 40 + 11 * length (now store) ≤ length (now out) ⌝ }
+    ensures { λ r. ⌜ take r (now (out .exit)) ≡ ranLine (asRunAnswer stepper) (asRunAnswer reducer) (now (store .entry)) ⌝ }
+{
+    let stepped = stepper.outcome;
+    let reduced = reducer.outcome;
+    let first = put_run(out, 0, stepped, stepper.steps);
+    out[first] = 32;
+    let second = put_run(out, first + 1, reduced, reducer.steps);
+    let end = put_values(out, second, store);
+    out[end] = 10;
+    end + 1
 }
