@@ -60,15 +60,17 @@ reducerRun input = reducerFrom (substitutedFrom input (termOfInput input))
 
 -- THE REFUSALS, in their order: under 2 bytes; a first length above 16,384; an input shorter than that length; rows 2 to 5 of
 -- the record; a remainder that is not k values; a term longer than the buffer
-abbrev pub lineRows : List ℕ → List Row
-lineRows input =
+
+-- All but the last, and then more.
+abbrev pub inputRows : List ℕ → List Row → List Row
+inputRows input more =
     row 2 (ltb (length input) 2)
     ∷ row 1 (ltb 16384 (saidLength input))
     ∷ row 2 (ltb (length input) (saidLength input))
-    ∷ programRows (recordOf input) (saidLength input)
-    (row 6 (not (eqb (length input - saidLength input) (4 * kOfInput input)))
-    ∷ row 10 (tooShort (replicate programBuffer 0) (translated (recordOf input) (saidLength input)))
-    ∷ [])
+    ∷ programRows (recordOf input) (saidLength input) (row 6 (not (eqb (length input - saidLength input) (4 * kOfInput input))) ∷ more)
+
+abbrev pub lineRows : List ℕ → List Row
+lineRows input = inputRows input (row 10 (tooShort (replicate programBuffer 0) (translated (recordOf input) (saidLength input))) ∷ [])
 
 -- THE LINE, in ASCII, with its end of line
 
