@@ -1,13 +1,14 @@
 -- The values behind the record, one more at a time.
-use Prim.Native.Nat.{_*_, _+_, _<_, suc, zero, ℕ}
+use Prim.Native.Nat.{_*_, _+_, _-_, _<_, suc, zero, ℕ, _≤_}
 use mathlib.Core.Path.{_≡_, ap, refl, sym, _∙_}
 use mathlib.Core.List.{_++_, List, [], _∷_}
 use native.Mathlib.Numerals.{add-one}
 use native.Mathlib.Omega.{arith}
 use lib.ListN.{drop, length, set, take}
-use lib.Seq.{drop-drop, take-all, take-suc-set}
+use lib.Seq.{drop-drop, take-all, take-suc-set, take-take}
 use Rattle.buffer.specs.LittleEndian.{val}
 use Rattle.buffer.specs.Slice.{part}
+use Rattle.record.proofs.AloneLaws.{drop-take}
 use Rattle.report.specs.Line.{valuesIn}
 
 value-next : (i : ℕ) (bytes : List ℕ) → part (drop 4 bytes) (4 * i) 4 ≡ part bytes (4 * suc i) 4
@@ -51,3 +52,10 @@ value-read store bytes i v h e r =
 
 pub values-read : (store bytes : List ℕ) (i : ℕ) → i ≡ length store → take i store ≡ valuesIn i bytes → store ≡ valuesIn i bytes
 values-read store bytes i e r = sym (take-all i store (omega arith)) ∙ r
+
+-- The values stand in so many bytes: what is behind them does not matter.
+pub values-within : (n m : ℕ) (bytes : List ℕ) → 4 * n ≤ m → valuesIn n (take m bytes) ≡ valuesIn n bytes
+values-within zero m bytes h = values-none (take m bytes) ∙ sym (values-none bytes)
+values-within (suc n) m bytes h =
+    values-more n (take m bytes)
+    ∙ rw (take-take 4 m bytes (omega arith), drop-take 4 m bytes, values-within n (m - 4) (drop 4 bytes) (omega arith)) (sym (values-more n bytes))

@@ -23,7 +23,7 @@ use Rattle.report.specs.Line.{inputRows, kOfInput, programBuffer, record
 use Rattle.report.specs.Reads.{RecordRead, WholeRecord}
 
 -- rows behind others do not matter where one of these applies
-first-before : (rs more : List Row) → (firstRow rs ≡ 0 → ⊥) → firstRow (rs ++ more) ≡ firstRow rs
+pub first-before : (rs more : List Row) → (firstRow rs ≡ 0 → ⊥) → firstRow (rs ++ more) ≡ firstRow rs
 first-before [] more h = absurd (h (none-first [] tt))
 first-before (r ∷ rs) more h = go (λ z. first-before rs more z) (r .applies) refl
   where
@@ -34,7 +34,7 @@ first-before (r ∷ rs) more h = go (λ z. first-before rs more z) (r .applies) 
         first-skips (r .number) (r .applies) (rs ++ more) e ∙ ih (λ z. h (s ∙ z)) ∙ sym s
 
 -- The row behind the record's own.
-abbrev row6 : List ℕ → Row
+abbrev pub row6 : List ℕ → Row
 row6 input = row 6 (not (eqb (length input - saidLength input) (4 * kOfInput input)))
 
 module _ (input : List ℕ) where
@@ -87,7 +87,7 @@ module _ (input : List ℕ) where
         ∙ first-skips 5 (blockOutside (recordOf input) (saidLength input)) _ (r .1 .1 .1 .1 .0)
 
 -- WHAT THE CODE ANSWERS
-abbrev InputChecked : List ℕ → Checked → Type 0
+abbrev pub InputChecked : List ℕ → Checked → Type 0
 InputChecked input c = c ≡ checkedBy (firstRow (inputRows input [])) (kOfInput input)
 
 module _ (input a : List ℕ) (total : ℕ) (h : RecordRead input a total) where

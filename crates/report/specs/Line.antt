@@ -96,12 +96,16 @@ ranLine s r store =
     outcomeWord (s .outcome) ++ (spaced (s .steps) ++ (32 ∷ (outcomeWord (r .outcome)
     ++ (spaced (r .steps) ++ (spacedAll store ++ (10 ∷ []))))))
 
+-- The same of two runs.
+abbrev pub runsLine : StepperCall → ReducerCall → List ℕ
+runsLine s r = ranLine (s .answer) (r .answer) (s .store)
+
 -- The word and the number.
 unfoldable pub refusedLine : ℕ → List ℕ
 refusedLine n = outcomeWord refused ++ (spaced n ++ (10 ∷ []))
 
 unfoldable pub lineBy : ℕ → List ℕ → List ℕ
-lineBy zero input = ranLine (stepperRun input .answer) (reducerRun input .answer) (stepperRun input .store)
+lineBy zero input = runsLine (stepperRun input) (reducerRun input)
 lineBy (suc n) input = refusedLine (suc n)
 
 unfoldable pub line : List ℕ → List ℕ
