@@ -95,7 +95,7 @@ fn put_run(out: &mut [u8], at: usize, o: Outcome, n: u32) -> usize
 // The line of a refused input. The first r bytes are the line.
 pub fn put_refused(out: &mut [u8], number: u32) -> usize
     requires { ⌜ 20 ≤ length (now out) ⌝ }
-    ensures { λ r. ⌜ take r (now (out .exit)) ≡ refusedLine number ⌝ }
+    ensures { λ r. ⌜ (take r (now (out .exit)) ≡ refusedLine number) × (r ≤ 20) ⌝ }
 {
     let end = put_run(out, 0, Outcome::Refused, number);
     out[end] = 10;
@@ -105,7 +105,7 @@ pub fn put_refused(out: &mut [u8], number: u32) -> usize
 // The line of the two runs.
 pub fn put_ran(out: &mut [u8], stepper: RunEnd, reducer: RunEnd, store: &[u32]) -> usize
     requires { ⌜ 40 + 11 * length (now store) ≤ length (now out) ⌝ }
-    ensures { λ r. ⌜ take r (now (out .exit)) ≡ ranLine (asRunAnswer stepper) (asRunAnswer reducer) (now (store .entry)) ⌝ }
+    ensures { λ r. ⌜ (take r (now (out .exit)) ≡ ranLine (asRunAnswer stepper) (asRunAnswer reducer) (now (store .entry))) × (r ≤ 40 + 11 * length (now (store .entry))) ⌝ }
 {
     let stepped = stepper.outcome;
     let reduced = reducer.outcome;

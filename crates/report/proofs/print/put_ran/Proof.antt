@@ -53,7 +53,7 @@ same-length c =
 -- src/print.rt:106:1
 returns : tie.Need-returns
 returns c =
-    ran-put (c .before .before .before .before .before .before .before .before .before .before .before .before .before .before .args .out .now) (c .before .before .before .before .before .before .before .before .before .before .put-run .last .0) (c .before .before .before .before .before .before .put-run2 .last .0) (c .before .before .put-values .last .0) (asRunAnswer (c .before .before .before .before .before .before .before .before .before .before .before .before .before .before .args .stepper)) (asRunAnswer (c .before .before .before .before .before .before .before .before .before .before .before .before .before .before .args .reducer)) (c .before .before .before .before .before .before .before .before .before .before .before .before .before .before .args .store .now) (c .before .before .before .before .before .before .before .before .before .before .put-run .result) (c .before .before .before .before .before .before .put-run2 .result) (c .before .before .put-values .result) (c .before .before .before .before .before .before .before .before .before .before .put-run .ensures .0) (c .before .before .before .before .before .before .before .before .before .before .put-run .ensures .1) (c .before .before .before .before .before .before .put-run2 .ensures .0) (c .before .before .before .before .before .before .put-run2 .ensures .1) (c .before .before .put-values .ensures .0) (c .before .before .put-values .ensures .1) (omega (arith, c .before .before .before .before .before .before .before .before .before .before .put-run .ensures .2, c .before .before .before .before .before .before .put-run2 .ensures .2, c .before .before .put-values .ensures .2))
+    (ran-put (c .before .before .before .before .before .before .before .before .before .before .before .before .before .before .args .out .now) (c .before .before .before .before .before .before .before .before .before .before .put-run .last .0) (c .before .before .before .before .before .before .put-run2 .last .0) (c .before .before .put-values .last .0) (asRunAnswer (c .before .before .before .before .before .before .before .before .before .before .before .before .before .before .args .stepper)) (asRunAnswer (c .before .before .before .before .before .before .before .before .before .before .before .before .before .before .args .reducer)) (c .before .before .before .before .before .before .before .before .before .before .before .before .before .before .args .store .now) (c .before .before .before .before .before .before .before .before .before .before .put-run .result) (c .before .before .before .before .before .before .put-run2 .result) (c .before .before .put-values .result) (c .before .before .before .before .before .before .before .before .before .before .put-run .ensures .0) (c .before .before .before .before .before .before .before .before .before .before .put-run .ensures .1) (c .before .before .before .before .before .before .put-run2 .ensures .0) (c .before .before .before .before .before .before .put-run2 .ensures .1) (c .before .before .put-values .ensures .0) (c .before .before .put-values .ensures .1) (omega (arith, c .before .before .before .before .before .before .before .before .before .before .put-run .ensures .2, c .before .before .before .before .before .before .put-run2 .ensures .2, c .before .before .put-values .ensures .2)), omega (arith, c .before .before .before .before .before .before .before .before .before .before .put-run .ensures .2, c .before .before .before .before .before .before .put-run2 .ensures .2, c .before .before .put-values .ensures .2))
 
 pub put-ran-spec : {M : Type 1} → statement M
 put-ran-spec =

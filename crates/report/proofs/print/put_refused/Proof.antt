@@ -27,7 +27,7 @@ same-length c = search needs
 -- src/print.rt:96:1
 returns : tie.Need-returns
 returns c =
-    refused-put (c .before .before .before .before .before .args .out .now) (c .before .before .put-run .last .0) (c .before .before .put-run .result) (c .before .before .before .before .before .args .number) (c .before .before .put-run .ensures .0) (c .before .before .put-run .ensures .1) (omega arith)
+    (refused-put (c .before .before .before .before .before .args .out .now) (c .before .before .put-run .last .0) (c .before .before .put-run .result) (c .before .before .before .before .before .args .number) (c .before .before .put-run .ensures .0) (c .before .before .put-run .ensures .1) (omega arith), omega arith)
 
 pub put-refused-spec : {M : Type 1} → statement M
 put-refused-spec =
