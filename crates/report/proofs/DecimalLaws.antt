@@ -1,10 +1,12 @@
 -- Decimal printing says the number: read back it is the number, every byte is a digit, and there is no leading zero.
-use Prim.Native.Nat.{_%_, _*_, _+_, _-_, _/_, _<_, suc, zero, ℕ, _≤_}
+use Prim.Native.Nat.{_%_, _*_, _+_, _-_, _/_, _<_, _^_, suc, zero, ℕ, _≤_}
 use mathlib.Core.Path.{ap, refl, _∙_, _≡_}
 use mathlib.Core.Bool.{Bool, false, true}
 use mathlib.Core.List.{_++_, List, [], _∷_}
 use borrow.Author.Tests.{le-ltb, lt-ltb, ltb-false, ltb-true}
 use lib.Dec.{ltb}
+use lib.ListN.{length, length-append}
+use native.Mathlib.Nat.{pow-succ'}
 use native.Mathlib.Omega.{arith}
 use Rattle.report.specs.Decimal.{decimal, decimalBy, decimalValue, decimalWithin, digit}
 
@@ -52,3 +54,32 @@ value-within (suc f) n h = go (λ m k. value-within f m k) (ltb n 10) refl
 
 pub decimal-value : (n : ℕ) → decimalValue 0 (decimal n) ≡ n
 decimal-value n = value-within (suc n) n (omega arith)
+
+-- How many digits
+pub digits-small : (n : ℕ) → n < 10 → length (decimal n) ≡ 1
+digits-small n h = ap (length {A = ℕ}) (decimal-small n h)
+
+pub digits-large : (n : ℕ) → 10 ≤ n → length (decimal n) ≡ length (decimal (n / 10)) + 1
+digits-large n h = ap (length {A = ℕ}) (decimal-large n h) ∙ length-append (decimal (n / 10)) (digit (n % 10) ∷ [])
+
+pub digits-some : (n : ℕ) → 1 ≤ length (decimal n)
+digits-some n = go (ltb n 10) refl
+  where
+    go : (b : Bool) → ltb n 10 ≡ b → 1 ≤ length (decimal n)
+    go true e = omega (arith, digits-small n (ltb-true n 10 e))
+    go false e = omega (arith, digits-large n (ltb-false n 10 e))
+
+-- w + 1 digits at most below the power of 10
+digits-within : (w n : ℕ) → n < 10 ^ suc w → length (decimal n) ≤ suc w
+digits-within zero n h = omega (arith, digits-small n (omega arith))
+digits-within (suc w) n h = go (λ m k. digits-within w m k) (ltb n 10) refl
+  where
+    go : ((m : ℕ) → m < 10 ^ suc w → length (decimal m) ≤ suc w) → (b : Bool) → ltb n 10 ≡ b → length (decimal n) ≤ suc (suc w)
+    go more true e = omega (arith, digits-small n (ltb-true n 10 e))
+    go more false e =
+        let p = pow-succ' 10 (suc w) in
+        let m : length (decimal (n / 10)) ≤ suc w = more (n / 10) (omega arith) in
+        omega (arith, digits-large n (ltb-false n 10 e))
+
+pub digits-word : (n : ℕ) → n < 2 ^ 32 → length (decimal n) ≤ 10
+digits-word n h = digits-within 9 n (omega arith)

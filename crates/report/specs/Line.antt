@@ -9,6 +9,7 @@ use Rattle.record.specs.Answers.{Wrote, padded}
 use Rattle.record.specs.Rows.{Row, firstRow, kOf, programRows, row}
 use Rattle.reducer.specs.RunReducer.{ReducerCall, runReducer}
 use Rattle.rules.specs.Run.{Outcome, isFinished, isOver, noRoom, refused, spent}
+use Rattle.run.specs.RunAnswer.{RunAnswer}
 use Rattle.stepper.specs.RunStepper.{StepperCall, runStepper}
 use Rattle.term.specs.Calls.{substituteCall, tooShort, translateCall, translated}
 use Rattle.report.specs.Decimal.{decimal}
@@ -59,15 +60,17 @@ reducerRun input = reducerFrom (substitutedFrom input (termOfInput input))
 
 -- THE REFUSALS, in their order: under 2 bytes; a first length above 16,384; an input shorter than that length; rows 2 to 5 of
 -- the record; a remainder that is not k values; a term longer than the buffer
-abbrev pub lineRows : List ℕ → List Row
-lineRows input =
+
+-- All but the last, and then more.
+abbrev pub inputRows : List ℕ → List Row → List Row
+inputRows input more =
     row 2 (ltb (length input) 2)
     ∷ row 1 (ltb 16384 (saidLength input))
     ∷ row 2 (ltb (length input) (saidLength input))
-    ∷ programRows (recordOf input) (saidLength input)
-    (row 6 (not (eqb (length input - saidLength input) (4 * kOfInput input)))
-    ∷ row 10 (tooShort (replicate programBuffer 0) (translated (recordOf input) (saidLength input)))
-    ∷ [])
+    ∷ programRows (recordOf input) (saidLength input) (row 6 (not (eqb (length input - saidLength input) (4 * kOfInput input))) ∷ more)
+
+abbrev pub lineRows : List ℕ → List Row
+lineRows input = inputRows input (row 10 (tooShort (replicate programBuffer 0) (translated (recordOf input) (saidLength input))) ∷ [])
 
 -- THE LINE, in ASCII, with its end of line
 
@@ -88,14 +91,22 @@ spacedAll [] = []
 spacedAll (v ∷ vs) = spaced v ++ spacedAll vs
 
 -- The stepper's outcome and steps, the reducer's, the stepper's store.
-unfoldable pub ranLine : StepperCall → ReducerCall → List ℕ
-ranLine s r =
-    outcomeWord (s .answer .outcome) ++ (spaced (s .answer .steps) ++ (32 ∷ (outcomeWord (r .answer .outcome)
-    ++ (spaced (r .answer .steps) ++ (spacedAll (s .store) ++ (10 ∷ []))))))
+unfoldable pub ranLine : RunAnswer → RunAnswer → List ℕ → List ℕ
+ranLine s r store =
+    outcomeWord (s .outcome) ++ (spaced (s .steps) ++ (32 ∷ (outcomeWord (r .outcome)
+    ++ (spaced (r .steps) ++ (spacedAll store ++ (10 ∷ []))))))
+
+-- The same of two runs.
+abbrev pub runsLine : StepperCall → ReducerCall → List ℕ
+runsLine s r = ranLine (s .answer) (r .answer) (s .store)
+
+-- The word and the number.
+unfoldable pub refusedLine : ℕ → List ℕ
+refusedLine n = outcomeWord refused ++ (spaced n ++ (10 ∷ []))
 
 unfoldable pub lineBy : ℕ → List ℕ → List ℕ
-lineBy zero input = ranLine (stepperRun input) (reducerRun input)
-lineBy (suc n) input = outcomeWord refused ++ (spaced (suc n) ++ (10 ∷ []))
+lineBy zero input = runsLine (stepperRun input) (reducerRun input)
+lineBy (suc n) input = refusedLine (suc n)
 
 unfoldable pub line : List ℕ → List ℕ
 line input = lineBy (firstRow (lineRows input)) input

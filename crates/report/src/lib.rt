@@ -1,1 +1,3 @@
-// No code yet: the crate is its definitions (specs) and theorems (proofs).
+// The program's line: from the entire standard input to the line printed, as functions on lent slices.
+pub mod input;
+pub mod print;

@@ -1,0 +1,169 @@
+-- THE LINE, by what the calls answer.
+use Prim.Native.Nat.{_*_, _+_, _-_, _<_, suc, zero, ℕ, _≤_}
+use mathlib.Core.Path.{ap, refl, sym, _∙_, _≡_}
+use mathlib.Core.Bool.{Bool, false, not, true, _||_}
+use mathlib.Core.List.{_++_, List, [], _∷_, append-nil}
+use borrow.Author.Tests.{eq-eqb, eqb-true, ltb-false, not-false}
+use lib.Dec.{eqb, ltb}
+use lib.ListN.{drop, length, length-drop, length-replicate, length-take, replicate, take}
+use lib.Seq.{drop-length, length-take-le}
+use native.Mathlib.Omega.{arith}
+use Rattle.buffer.specs.LittleEndian.{val}
+use Rattle.buffer.specs.Slice.{part, put, zeros}
+use Rattle.buffer.proofs.SliceLaws.{length-zeros}
+use Rattle.record.specs.Answers.{Checked, Wrote, checkProgramRows, checkedBy, padded, wroteBy}
+use Rattle.record.specs.Rows.{NoRow, Row, badBlock, badBuffer, badHeader, badK, blockOutside, firstRow, programRows, row, tooLong}
+use Rattle.record.proofs.AnswerLaws.{checked-accepted, checked-number, padded-zeros, wrote-accepted}
+use Rattle.record.proofs.HeldLaws.{good-k, not-long}
+use Rattle.record.proofs.RowLaws.{first-none, first-skips, or-intro}
+use Rattle.stepper.specs.RunStepper.{runStepper}
+use Rattle.term.specs.Calls.{substituteCall, tooShort, translateCall, translateRows, translated}
+use Rattle.term.proofs.CallLaws.{translate-number}
+use Rattle.report.specs.Line.{inputRows, kOfInput, line, lineBy, lineRows, programBudget, programBuffer, recordOf, reducerFrom, reducerRun, refusedLine, runsLine, saidLength, stepperRun, storeOf, substitutedFrom, termOfInput, valuesIn}
+use Rattle.report.specs.Reads.{Reads, RecordRead, WholeRecord}
+use Rattle.report.proofs.InputLaws.{values-within}
+use Rattle.report.proofs.InputRowsLaws.{InputChecked, first-before, record-buffer, row6, rows-behind, said-read}
+
+blank : length (replicate {A = ℕ} programBuffer 0) ≡ programBuffer
+blank = length-replicate {A = ℕ} programBuffer 0
+
+-- the two kinds of line
+line-refused : (input : List ℕ) (n : ℕ) → firstRow (lineRows input) ≡ n → (n ≡ 0 → ⊥) → line input ≡ refusedLine n
+unfolding line lineBy
+line-refused input n e z = ap (λ (m : ℕ). lineBy m input) e ∙ go n z
+  where
+    go : (n : ℕ) → (n ≡ 0 → ⊥) → lineBy n input ≡ refusedLine n
+    go zero z = absurd (z refl)
+    go (suc n) z = refl
+
+line-ran : (input : List ℕ) → firstRow (lineRows input) ≡ 0 → line input ≡ runsLine (stepperRun input) (reducerRun input)
+unfolding line lineBy
+line-ran input e = rw e refl
+
+-- A translation that is accepted depends on the output buffer's length alone.
+translate-same : (src : List ℕ) (used : ℕ) (out other : List ℕ) → length out ≡ length other → (translateCall src used out) .number ≡ 0 → (translateCall src used other) .number ≡ 0
+    → translateCall src used out ≡ translateCall src used other
+unfolding translateCall
+translate-same src used out other e y z =
+    wrote-accepted (firstRow (translateRows src used out)) (translated src used) out (sym (translate-number src used out) ∙ y)
+    ∙ ap (λ (n : ℕ). record { number = 0; used = length (translated src used); written = padded n (translated src used) }) e
+    ∙ sym (wrote-accepted (firstRow (translateRows src used other)) (translated src used) other (sym (translate-number src used other) ∙ z))
+
+-- WHAT AN ACCEPTED INPUT IS
+
+pub record Accepted (input : List ℕ) (k : ℕ) : Type 0 where
+  pub whole : WholeRecord input
+  pub rows : NoRow (checkProgramRows (recordOf input) (saidLength input))
+  pub is-k : kOfInput input ≡ k
+  pub low : k ≤ 16
+  pub rest : length input - saidLength input ≡ 4 * k
+
+pub input-refused : (input : List ℕ) (c : Checked) → InputChecked input c → (c .number ≡ 0 → ⊥) → line input ≡ refusedLine (c .number)
+input-refused input c e z =
+    let n : firstRow (inputRows input []) ≡ c .number =
+    sym (checked-number (firstRow (inputRows input [])) (kOfInput input)) ∙ sym (ap (λ (d : Checked). d .number) e) in
+    line-refused input (c .number) (first-before (inputRows input []) (row 10 (tooShort (replicate programBuffer 0) (translated (recordOf input) (saidLength input))) ∷ []) (λ y. z (sym n ∙ y)) ∙ n) z
+
+pub input-passes : (input : List ℕ) (c : Checked) → InputChecked input c → c .number ≡ 0 → Accepted input (c .k)
+input-passes input c e z =
+    let n : firstRow (inputRows input []) ≡ 0 =
+    sym (checked-number (firstRow (inputRows input [])) (kOfInput input)) ∙ sym (ap (λ (d : Checked). d .number) e) ∙ z in
+    let r = first-none (inputRows input []) refl n in
+    let w : WholeRecord input = record { two = ltb-false (length input) 2 (r .0); fits = ltb-false 16384 (saidLength input) (r .1 .0); there = ltb-false (length input) (saidLength input) (r .1 .1 .0) } in
+    let k : kOfInput input ≡ c .k = sym (ap (λ (d : Checked). d .k) (e ∙ checked-accepted (firstRow (inputRows input [])) (kOfInput input) n)) in
+    let g = good-k (recordOf input) (saidLength input) (r .1 .1 .1 .1 .0) in
+    let q = eqb-true (length input - saidLength input) (4 * kOfInput input) (not-false (eqb (length input - saidLength input) (4 * kOfInput input)) (r .1 .1 .1 .1 .1 .1 .1 .0)) in
+    record {
+      whole = w;
+      rows = (record-buffer input w, (r .1 .1 .1 .0, (r .1 .1 .1 .1 .0, (r .1 .1 .1 .1 .1 .0, (r .1 .1 .1 .1 .1 .1 .0, tt)))));
+      is-k = k;
+      low = omega (arith, g .1);
+      rest = q ∙ ap (λ (j : ℕ). 4 * j) k;
+    }
+
+-- AN ACCEPTED INPUT'S LINE. s is the length read, a's first bytes are the record.
+
+module _ {input a b behind : List ℕ} {total : ℕ} (h : Reads input a b behind total) {k : ℕ} (p : Accepted input k) where
+  pub said-is : (s : ℕ) → s ≡ val (part a 0 2) → s ≡ saidLength input
+  said-is s e = said-read input a total (h .lead) s (omega (arith, h .lead .counted, p .whole .two)) e
+
+  pub said-fits : saidLength input ≤ length a
+  unfolding programBuffer
+  said-fits = omega (arith, h .lead .size, p .whole .fits)
+
+  -- the term is the last row
+  translation-rows : (out : List ℕ) → length out ≤ 16384
+      → firstRow (translateRows (recordOf input) (saidLength input) out) ≡ firstRow (row 10 (tooShort out (translated (recordOf input) (saidLength input))) ∷ [])
+  translation-rows out l =
+      first-skips 1 (badBuffer (recordOf input) (saidLength input) || tooLong out) _ (or-intro (p .rows .0) (not-long out l))
+      ∙ first-skips 2 (badHeader 7 (recordOf input) (saidLength input)) _ (p .rows .1 .0)
+      ∙ first-skips 3 (badK (recordOf input) (saidLength input)) _ (p .rows .1 .1 .0)
+      ∙ first-skips 4 (badBlock (recordOf input) (saidLength input)) _ (p .rows .1 .1 .1 .0)
+      ∙ first-skips 5 (blockOutside (recordOf input) (saidLength input)) _ (p .rows .1 .1 .1 .1 .0)
+
+  last-row : firstRow (lineRows input) ≡ firstRow (row 10 (tooShort (replicate programBuffer 0) (translated (recordOf input) (saidLength input))) ∷ [])
+  last-row =
+      let t : eqb (length input - saidLength input) (4 * kOfInput input) ≡ true =
+      eq-eqb (length input - saidLength input) (4 * kOfInput input) (p .rest ∙ ap (λ (j : ℕ). 4 * j) (sym (p .is-k))) in
+      rows-behind input (p .whole) _ (p .rows) ∙ first-skips 6 (row6 input .applies) _ (ap not t)
+
+  line-number : (out : List ℕ) → length out ≡ programBuffer → firstRow (lineRows input) ≡ (translateCall (recordOf input) (saidLength input) out) .number
+  unfolding tooShort programBuffer
+  line-number out e =
+      last-row
+      ∙ ap (λ (n : ℕ). firstRow (row 10 (ltb n (length (translated (recordOf input) (saidLength input)))) ∷ [])) (blank ∙ sym e)
+      ∙ sym (translation-rows out (omega arith)) ∙ sym (translate-number (recordOf input) (saidLength input) out)
+
+  -- what the calls are given
+  module _ (s : ℕ) (q : s ≡ saidLength input) where
+    translate-record : translateCall (take s a) s b ≡ translateCall (recordOf input) (saidLength input) b
+    translate-record =
+        let r : take s a ≡ recordOf input = ap (λ (n : ℕ). take n a) q ∙ h .lead .whole (p .whole) in
+        ap (λ (l : List ℕ). translateCall l s b) r ∙ ap (λ (n : ℕ). translateCall (recordOf input) n b) q
+
+    pub translate-refuses : (t : Wrote) → t ≡ translateCall (take s a) s b → (t .number ≡ 0 → ⊥) → line input ≡ refusedLine (t .number)
+    translate-refuses t e z =
+        line-refused input (t .number) (line-number b (h .room) ∙ ap (λ (u : Wrote). u .number) (sym (e ∙ translate-record))) z
+
+    term-is : (t : Wrote) → t ≡ translateCall (take s a) s b → t .number ≡ 0 → t ≡ termOfInput input
+    term-is t e z =
+        let f : t ≡ translateCall (recordOf input) (saidLength input) b = e ∙ translate-record in
+        let y : (translateCall (recordOf input) (saidLength input) b) .number ≡ 0 = sym (ap (λ (u : Wrote). u .number) f) ∙ z in
+        let n = blank in
+        f ∙ translate-same (recordOf input) (saidLength input) b (replicate programBuffer 0) (h .room ∙ sym n) y
+        (sym (line-number (replicate programBuffer 0) n) ∙ line-number b (h .room) ∙ y)
+
+    -- the stepper's buffer once the bytes behind the record are zero
+    buffer-is : (a₁ : List ℕ) → a₁ ≡ put a s (zeros (length a - s)) → a₁ ≡ padded programBuffer (recordOf input)
+    unfolding put
+    buffer-is a₁ e =
+        let n : ℕ = length a - s in
+        let z = length-zeros n in
+        let fits = said-fits in
+        let i : s + length (zeros n) ≡ length a = omega arith in
+        let d : drop (s + length (zeros n)) a ≡ [] = ap (λ (j : ℕ). drop j a) i ∙ drop-length a in
+        let r : take s a ≡ recordOf input = ap (λ (j : ℕ). take j a) q ∙ h .lead .whole (p .whole) in
+        let l : length (recordOf input) ≡ saidLength input = length-take-le (saidLength input) input (p .whole .there) in
+        let m : programBuffer - length (recordOf input) ≡ n = omega (arith, h .lead .size) in
+        e ∙ ap (λ (x : List ℕ). take s a ++ (zeros n ++ x)) d ∙ ap (λ (x : List ℕ). take s a ++ x) (append-nil (zeros n))
+        ∙ ap (λ (x : List ℕ). x ++ zeros n) r ∙ sym (padded-zeros programBuffer n (recordOf input) m)
+
+  -- the values
+  pub values-there : 4 * k ≤ length behind
+  values-there =
+      let d = length-drop (saidLength input) input in
+      let t = length-take 65 (drop (saidLength input) input) in
+      let e : length behind ≡ length (take 65 (drop (saidLength input) input)) = ap (length {A = ℕ}) (h .values (p .whole)) in
+      omega (arith, p .rest, p .low)
+
+  store-is : valuesIn k behind ≡ storeOf input
+  store-is =
+      ap (valuesIn k) (h .values (p .whole)) ∙ values-within k 65 (drop (saidLength input) input) (omega (arith, p .low))
+      ∙ ap (λ (n : ℕ). valuesIn n (drop (saidLength input) input)) (sym (p .is-k))
+
+  pub runs-line : (s : ℕ) → s ≡ saidLength input → (t : Wrote) → t ≡ translateCall (take s a) s b → t .number ≡ 0
+      → (a₁ : List ℕ) → a₁ ≡ put a s (zeros (length a - s))
+      → runsLine (runStepper a₁ s (valuesIn k behind) programBudget) (reducerFrom (substituteCall (t .written) (t .used) (valuesIn k behind))) ≡ line input
+  unfolding stepperRun reducerRun substitutedFrom
+  runs-line s q t e z a₁ f =
+      rw (buffer-is s q a₁ f, store-is, q, term-is s q t e z) (sym (line-ran input (line-number b (h .room) ∙ ap (λ (u : Wrote). u .number) (sym (e ∙ translate-record s q)) ∙ z)))

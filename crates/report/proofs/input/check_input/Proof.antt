@@ -1,0 +1,120 @@
+-- One law for each way out.
+use borrow.Author.Needs.{needs}
+use Rattle.report.proofs.input.check_input.Statement.{statement}
+use Rattle.report.proofs.input.check_input.Tie as tie
+use Rattle.report.proofs.input.check_input.Reads as reads
+use Rattle.report.proofs.input.check_input.Lts as lts
+use Rattle.buffer.proofs.get_u16.Reads as get-u16-reads
+use Rattle.checker.proofs.program.check_program.Reads as check-program-reads
+use Rattle.report.proofs.input.refused.Reads as refused-reads
+use native.Mathlib.Omega.{arith}
+use mathlib.Core.Path.{_∙_, sym}
+use lib.ListN.{length, take}
+use lib.Seq.{length-take-le}
+use Rattle.checker.specs.Answer.{asChecked}
+use Rattle.report.proofs.InputRowsLaws.{check-refuses, input-accepted, record-read, rest-refuses, said-long, said-more, said-read, under-two, whole-read}
+use Rattle.report.specs.Line.{programBuffer}
+
+-- src/input.rt:28:9
+refused-requires : tie.Need-refused-requires
+refused-requires c κs = search needs
+
+-- src/input.rt:28:9
+returns : tie.Need-returns
+returns c =
+    λ input h. under-two input (c .before .before .before .args .a .now) (c .before .before .before .args .total) h (asChecked (c .refused .result)) (c .refused .ensures) (c .before .if1 .taken)
+
+-- src/input.rt:30:9
+get-u16-requires : tie.Need-get-u16-requires
+unfolding programBuffer
+get-u16-requires c κs = omega (arith, c .before .before .pre .1 .size)
+
+-- src/input.rt:32:9
+refused-requires-2 : tie.Need-refused-requires-2
+refused-requires-2 c κs = search needs
+
+-- src/input.rt:32:9
+returns-2 : tie.Need-returns-2
+returns-2 c =
+    λ input h. said-long input (c .before .before .before .before .before .args .a .now) (c .before .before .before .before .before .args .total) h (asChecked (c .refused2 .result)) (c .before .before .get-u16 .result) (c .refused2 .ensures) (c .before .before .before .if1 .left) (c .before .before .get-u16 .ensures .0) (c .before .if2 .taken)
+
+-- src/input.rt:35:9
+refused-requires-3 : tie.Need-refused-requires-3
+refused-requires-3 c κs = search needs
+
+-- src/input.rt:35:9
+returns-3 : tie.Need-returns-3
+returns-3 c =
+    λ input h. said-more input (c .before .before .before .before .before .before .args .a .now) (c .before .before .before .before .before .before .args .total) h (asChecked (c .refused3 .result)) (c .before .before .before .get-u16 .result) (c .refused3 .ensures) (c .before .before .before .before .if1 .left) (c .before .before .before .get-u16 .ensures .0) (c .before .before .if2 .left) (c .before .if3 .taken)
+
+-- src/input.rt:37:33
+slice-aggregate-check-program : tie.Need-slice-aggregate-check-program
+unfolding programBuffer
+slice-aggregate-check-program c =
+    sym (length-take-le (c .before .before .before .get-u16 .result) (c .before .before .before .before .before .before .args .a .now) (omega (arith, c .before .before .before .before .before .before .pre .1 .size)))
+
+-- src/input.rt:37:9
+check-program-requires : tie.Need-check-program-requires
+check-program-requires c κs = search needs
+
+-- src/input.rt:39:9
+returns-4 : tie.Need-returns-4
+returns-4 c =
+    λ input h.
+    let a = c .before .before .before .before .before .before .before .before .before .args .a .now in
+    let s = c .before .before .before .before .before .before .get-u16 .result in
+    let r = record-read input a (c .before .before .before .before .before .before .before .before .before .args .total) h s (c .before .before .before .before .before .before .before .if1 .left) (c .before .before .before .before .before .before .get-u16 .ensures .0) (c .before .before .before .before .before .if2 .left) (c .before .before .before .before .if3 .left) in
+    let w = whole-read input a (c .before .before .before .before .before .before .before .before .before .args .total) h s (c .before .before .before .before .before .before .before .if1 .left) (c .before .before .before .before .before .before .get-u16 .ensures .0) (c .before .before .before .before .before .if2 .left) (c .before .before .before .before .if3 .left) in
+    check-refuses input a (c .before .before .before .before .before .before .before .before .before .args .total) h w (asChecked (c .before .before .check-program .result)) (c .before .before .check-program .ensures ∙ r) (c .if4 .taken)
+
+-- src/input.rt:41:28
+cast-if5 : tie.Need-cast-if5
+cast-if5 c = search needs
+
+-- src/input.rt:41:24
+mul-if5 : tie.Need-mul-if5
+mul-if5 c = search needs
+
+-- src/input.rt:42:9
+refused-requires-4 : tie.Need-refused-requires-4
+refused-requires-4 c κs = search needs
+
+-- src/input.rt:42:9
+returns-5 : tie.Need-returns-5
+returns-5 c =
+    λ input h.
+    let a = c .before .before .before .before .before .before .before .before .before .before .before .before .args .a .now in
+    let s = c .before .before .before .before .before .before .before .before .before .get-u16 .result in
+    let r = record-read input a (c .before .before .before .before .before .before .before .before .before .before .before .before .args .total) h s (c .before .before .before .before .before .before .before .before .before .before .if1 .left) (c .before .before .before .before .before .before .before .before .before .get-u16 .ensures .0) (c .before .before .before .before .before .before .before .before .if2 .left) (c .before .before .before .before .before .before .before .if3 .left) in
+    let w = whole-read input a (c .before .before .before .before .before .before .before .before .before .before .before .before .args .total) h s (c .before .before .before .before .before .before .before .before .before .before .if1 .left) (c .before .before .before .before .before .before .before .before .before .get-u16 .ensures .0) (c .before .before .before .before .before .before .before .before .if2 .left) (c .before .before .before .before .before .before .before .if3 .left) in
+    rest-refuses input a (c .before .before .before .before .before .before .before .before .before .before .before .before .args .total) h w (asChecked (c .before .before .before .before .before .check-program .result)) (c .before .before .before .before .before .check-program .ensures ∙ r) (c .before .before .before .if4 .left) (asChecked (c .refused4 .result)) s (c .refused4 .ensures) (said-read input a (c .before .before .before .before .before .before .before .before .before .before .before .before .args .total) h s (c .before .before .before .before .before .before .before .before .before .before .if1 .left) (c .before .before .before .before .before .before .before .before .before .get-u16 .ensures .0)) (c .before .if5 .taken)
+
+-- src/input.rt:23:1
+returns-6 : tie.Need-returns-6
+returns-6 c =
+    λ input h.
+    let a = c .before .before .before .before .before .before .before .before .before .before .before .args .a .now in
+    let s = c .before .before .before .before .before .before .before .before .get-u16 .result in
+    let r = record-read input a (c .before .before .before .before .before .before .before .before .before .before .before .args .total) h s (c .before .before .before .before .before .before .before .before .before .if1 .left) (c .before .before .before .before .before .before .before .before .get-u16 .ensures .0) (c .before .before .before .before .before .before .before .if2 .left) (c .before .before .before .before .before .before .if3 .left) in
+    let w = whole-read input a (c .before .before .before .before .before .before .before .before .before .before .before .args .total) h s (c .before .before .before .before .before .before .before .before .before .if1 .left) (c .before .before .before .before .before .before .before .before .get-u16 .ensures .0) (c .before .before .before .before .before .before .before .if2 .left) (c .before .before .before .before .before .before .if3 .left) in
+    input-accepted input a (c .before .before .before .before .before .before .before .before .before .before .before .args .total) h w (asChecked (c .before .before .before .before .check-program .result)) (c .before .before .before .before .check-program .ensures ∙ r) (c .before .before .if4 .left) s (said-read input a (c .before .before .before .before .before .before .before .before .before .before .before .args .total) h s (c .before .before .before .before .before .before .before .before .before .if1 .left) (c .before .before .before .before .before .before .before .before .get-u16 .ensures .0)) (c .if5 .left)
+
+pub check-input-spec : {M : Type 1} → statement M
+check-input-spec =
+    tie.close
+    (tie.spec
+    refused-requires
+    returns
+    get-u16-requires
+    refused-requires-2
+    returns-2
+    refused-requires-3
+    returns-3
+    slice-aggregate-check-program
+    check-program-requires
+    returns-4
+    cast-if5
+    mul-if5
+    refused-requires-4
+    returns-5
+    returns-6)

@@ -1,0 +1,34 @@
+-- The word and the number are two neighbouring stores.
+use borrow.Author.Needs.{needs}
+use Rattle.report.proofs.print.put_run.Statement.{statement}
+use Rattle.report.proofs.print.put_run.Tie as tie
+use Rattle.report.proofs.print.put_run.Reads as reads
+use Rattle.report.proofs.print.put_run.Lts as lts
+use Rattle.report.proofs.print.put_outcome.Reads as put-outcome-reads
+use Rattle.report.proofs.print.put_spaced.Reads as put-spaced-reads
+use native.Mathlib.Omega.{arith}
+use lib.ListN.{length-append}
+use Rattle.buffer.proofs.StoresLaws.{stores-2}
+use Rattle.report.specs.Line.{outcomeWord, spaced}
+use Rattle.run.specs.Represents.{asOutcome}
+
+-- src/print.rt:91:9
+put-outcome-requires : tie.Need-put-outcome-requires
+put-outcome-requires c κs = search needs
+
+-- src/print.rt:92:5
+put-spaced-requires : tie.Need-put-spaced-requires
+put-spaced-requires c κs = search needs
+
+-- src/print.rt:87:1
+same-length : tie.Need-same-length
+same-length c = search needs
+
+-- src/print.rt:87:1
+returns : tie.Need-returns
+returns c =
+    let n = length-append (outcomeWord (asOutcome (c .before .before .before .before .before .before .before .before .before .args .o))) (spaced (c .before .before .before .before .before .before .before .before .before .args .n)) in
+    (stores-2 (c .before .before .before .before .before .before .before .before .before .args .out .now) (c .before .before .before .before .before .before .put-outcome .last .0) (c .before .before .put-spaced .last .0) (outcomeWord (asOutcome (c .before .before .before .before .before .before .before .before .before .args .o))) (spaced (c .before .before .before .before .before .before .before .before .before .args .n)) (c .before .before .before .before .before .before .before .before .before .args .at) (c .before .before .before .before .before .before .put-outcome .result) (c .before .before .before .before .before .before .put-outcome .ensures .0) (c .before .before .put-spaced .ensures .0) (omega arith) (omega arith), omega arith, omega arith)
+
+pub put-run-spec : {M : Type 1} → statement M
+put-run-spec = tie.close (tie.spec put-outcome-requires put-spaced-requires same-length returns)

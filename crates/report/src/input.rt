@@ -1,0 +1,58 @@
+// The input as it was read: its refusals, and the values behind the record.
+ghost use mathlib.Core.Path.{_≡_};
+ghost use mathlib.Core.List.{List, []};
+ghost use Prim.Native.Nat.{ℕ, _*_, _≤_};
+ghost use lib.ListN.{length};
+ghost use Rattle.checker.specs.Answer.{asChecked};
+ghost use Rattle.record.specs.Answers.{checkedBy};
+ghost use Rattle.record.specs.Rows.{firstRow};
+ghost use Rattle.report.specs.Line.{inputRows, kOfInput, valuesIn};
+ghost use Rattle.report.specs.Reads.{RecordRead};
+use buffer::get_u16;
+use buffer::get_u32;
+use checker::Checked;
+use checker::program::check_program;
+
+fn refused(number: u32) -> Checked
+    ensures { λ r. ⌜ asChecked r ≡ record { number = number; k = 0 } ⌝ }
+{
+    Checked { number, k: 0 }
+}
+
+// Every refusal but the last, which takes the translation to see.
+pub fn check_input(a: &[u8], total: usize) -> Checked
+    requires { ⌜ ((input : List ℕ) × RecordRead input (now a) total) ⌝ }
+    ensures { λ r. ⌜ ((input : List ℕ) → RecordRead input (now (a .entry)) total → asChecked r ≡ checkedBy (firstRow (inputRows input [])) (kOfInput input)) ⌝ }
+{
+    if total < 2 {
+        return refused(2);
+    }
+    let said = get_u16(a, 0);
+    if 16384 < said {
+        return refused(1);
+    }
+    if total < said {
+        return refused(2);
+    }
+    let checked = check_program(&a[..said], said);
+    if checked.number != 0 {
+        return checked;
+    }
+    if total - said != 4 * checked.k as usize {
+        return refused(6);
+    }
+    checked
+}
+
+// 4 bytes each.
+
+pub fn read_values(bytes: &[u8], store: &mut [u32])
+    requires { ⌜ 4 * length (now store) ≤ length (now bytes) ⌝ }
+    ensures { λ _. ⌜ now (store .exit) ≡ valuesIn (length (now (store .entry))) (now (bytes .entry)) ⌝ }
+{
+    let mut i = 0;
+    while i < store.len() {
+        store[i] = get_u32(bytes, 4 * i);
+        i += 1;
+    }
+}
