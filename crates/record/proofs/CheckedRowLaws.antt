@@ -5,15 +5,19 @@ use mathlib.Core.Path.{ap, refl, sym, _∙_, _≡_}
 use mathlib.Core.Bool.{Bool, false, true, _||_}
 use mathlib.Core.List.{_++_, List, [], _∷_}
 use lib.ListN.{length}
+use native.Mathlib.Omega.{arith}
 use Rattle.buffer.specs.LittleEndian.{Bytes}
-use Rattle.rules.specs.FreeVariables.{allVars}
+use Rattle.rules.specs.FreeVariables.{Vars, allVars, closed, noVars}
+use Rattle.rules.specs.Store.{fitsWord}
 use Rattle.rules.specs.Syntax.{Block, Term}
+use Rattle.rules.proofs.SoundTermLaws.{sound-inRange}
 use Rattle.record.specs.Answers.{Checked, checkProgram, checkProgramRows, checkTerm, checkTermRows}
 use Rattle.record.specs.Holding.{ProgramIn, TermIn}
 use Rattle.record.specs.Rows.{NoRow, Row, badBuffer, firstRow, pickRow, programRows, row, termRows}
 use Rattle.record.proofs.AnswerLaws.{check-program-number, check-term-number}
 use Rattle.record.proofs.HoldingLaws.{check-program, check-term}
 use Rattle.record.proofs.RowLaws.{first-none, first-skips}
+use Rattle.record.proofs.WordsLaws.{sound-words, words-sound}
 
 -- ROWS BEHIND OTHERS
 
@@ -74,3 +78,15 @@ module _ (buf : List ℕ) (used n k : ℕ) (answer : checkTerm buf used ≡ reco
 
   pub term-accepted : n ≡ 0 → Bytes buf → (length buf ≤ 16384) × ((t : Term) × TermIn allVars k t buf used)
   term-accepted z hb = check-term k buf used hb .0 (answer ∙ ap (λ (m : ℕ). record { number = m; k = k }) z)
+
+-- a term that row 7 lets pass
+pub closed-term : {S : Vars} {k : ℕ} {t : Term} {buf : List ℕ} {used : ℕ} → TermIn S k t buf used → closed t ≡ true → TermIn noVars k t buf used
+unfolding closed
+closed-term {S} {k} {t} h e =
+    record {
+      within = h .within;
+      k-low = h .k-low;
+      k-high = h .k-high;
+      bytes = h .bytes;
+      sound = words-sound k noVars t (sound-words k S t (omega (arith, h .k-high)) (h .sound)) (sound-inRange fitsWord k S t (h .sound)) e;
+    }
