@@ -1,1 +1,3 @@
 pub mod RunReducerLaws
+pub mod RunningLaws
+pub mod CallLaws

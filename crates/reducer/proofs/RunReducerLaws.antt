@@ -73,7 +73,7 @@ module _ {k : ℕ} {t : Term} {buf : List ℕ} {used : ℕ} (h : TermIn noVars k
   abbrev ran : Ran Term
   ran = reductions k (length buf) budget t
 
-  reducer-is : runReducer buf used budget ≡ reducedTo k (length buf) budget ran
+  pub reducer-is : runReducer buf used budget ≡ reducedTo k (length buf) budget ran
   unfolding runReducer reducerBy
   reducer-is = ap (λ (m : ℕ). reducerBy m buf used budget) (reducer-passes h l) ∙ rw (term-is h l, term-k h) refl
 

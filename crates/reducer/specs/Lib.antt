@@ -1,2 +1,3 @@
 pub mod RunReducer
 pub mod ReducerRan
+pub mod Running

@@ -356,5 +356,35 @@ module _ {k : ℕ} {t : Term} {l : List ℕ} {used : ℕ} (h : Stands k t l used
   plan-fits : (q : Plan) → q ≡ planOf t → used + q .up ≤ length l + q .down → PlanFits k q l used
   plan-fits q e fits = asks-by (redex t) q (subst (λ (y : Plan). Planned (length (termPath t)) place (redex t) y) (sym e) planned) refl fits
 
+  -- BEFORE THE ROOM IS KNOWN: what comes and what goes is no longer than the record
+
+  sums-by : (t₀ : Term) (q : Plan) → Planned (length (termPath t)) place t₀ q → redex t ≡ t₀ → (q .up ≤ used) × (q .down ≤ used)
+  unfolding simpleSize
+  sums-by _ _ plannedFinished is = (omega arith, omega arith)
+  sums-by _ _ plannedOver is = (omega arith, omega arith)
+  sums-by _ _ (plannedLetOne {x} {v} {a} {u} st) is =
+      let z : termSize (letOne x (plain a) u) ≡ 8 + simpleSize (plain a) + termSize u = termSize-letOne x (plain a) u in
+      let room : place + (4 + termSize (letOne x (plain a) u)) ≤ used = room₀ (letOne x (plain a) u) is in
+      (omega arith, omega arith)
+  sums-by _ _ (plannedNumeral {x} {v} {s} {u} e st) is =
+      let room : place + (4 + termSize (letOne x s u)) ≤ used = room₀ (letOne x s u) is in
+      (omega arith, omega arith)
+  sums-by _ _ (plannedLetAll {ys} {u} st) is =
+      let z : termSize (letAll (tuple ys) u) ≡ 8 + termSize (tuple ys) + termSize u = termSize-letAll (tuple ys) u in
+      let y : termSize (tuple ys) ≡ 8 * length ys = termSize-tuple ys in
+      let room : place + (4 + termSize (letAll (tuple ys) u)) ≤ used = room₀ (letAll (tuple ys) u) is in
+      (omega arith, omega arith)
+  sums-by _ _ (plannedStop {x} {a} {ys} {u} st) is =
+      let z : termSize (rec x a ys u) ≡ 20 + 8 * length ys + termSize u = termSize-rec x a ys u in
+      let room : place + (4 + termSize (rec x a ys u)) ≤ used = room₀ (rec x a ys u) is in
+      (omega arith, omega arith)
+  sums-by _ _ (plannedUnroll {x} {q} {a} {ys} {u} st) is =
+      let z : termSize (rec x a ys u) ≡ 20 + 8 * length ys + termSize u = termSize-rec x a ys u in
+      let room : place + (4 + termSize (rec x a ys u)) ≤ used = room₀ (rec x a ys u) is in
+      (omega arith, omega arith)
+
+  pub plan-sums : (q : Plan) → q ≡ planOf t → (q .up ≤ used) × (q .down ≤ used)
+  plan-sums q e = sums-by (redex t) q (subst (λ (y : Plan). Planned (length (termPath t)) place (redex t) y) (sym e) planned) refl
+
 pub ready-fits : {k : ℕ} {t : Term} {l : List ℕ} {used : ℕ} (q : Plan) → Ready k t l used q → PlanFits k q l used
 ready-fits q h = plan-fits (h .stands) q (h .plans) (h .fits)

@@ -86,7 +86,21 @@ module _ {A : Type 0} (f : A → Answer A) (bytes : A → List ℕ) (room : ℕ)
   unfolding later oneMore
   later-more n r = ap (λ m. record { count = m; outcome = r .outcome; state = r .state }) {x = n + suc (r .count)} {y = n + 1 + r .count} (omega arith)
 
-  -- A FURTHER STEP is made where the run does not end
+  -- A FURTHER STEP is one that the machine makes, and there is room for it
+
+  pub further-fits : (a b : A) → f a ≡ next b → FurtherIn f bytes room a → length (bytes b) ≤ room
+  further-fits a b e g = omega (arith, g .2, ap (λ (c : A). length (bytes c)) (next-injective b (g .0) (sym e ∙ g .1)))
+    where
+      next-injective : (c d : A) → next c ≡ next d → c ≡ d
+      next-injective c d e = cc
+
+  pub further-not-finished : (a : A) (vs : List ℕ) → f a ≡ finished vs → FurtherIn f bytes room a → ⊥
+  further-not-finished a vs e g = let q = g .1 in let z : _≡_ {A = ℕ} 0 1 = cc in omega arith
+
+  pub further-not-over : (a : A) → f a ≡ over → FurtherIn f bytes room a → ⊥
+  further-not-over a e g = let q = g .1 in let z : _≡_ {A = ℕ} 0 1 = cc in omega arith
+
+  -- it is made where the run does not end
 
   pub going-further : (a : A) (t : Tally) (o : code.Outcome) → asOutcome o ≡ reads a → endsWith o t ≡ false → (0 < t .left) × FurtherIn f bytes room a
   unfolding endsWith

@@ -17,7 +17,7 @@ use Rattle.rules.specs.Rules.{at}
 use Rattle.rules.specs.Run.{Ran}
 use Rattle.rules.specs.Step.{step}
 use Rattle.rules.specs.Store.{fitsWord}
-use Rattle.rules.specs.Syntax.{Block, Config, finished, next, over}
+use Rattle.rules.specs.Syntax.{Block, Config}
 use Rattle.run.specs.declared.Outcome.{Outcome}
 use Rattle.run.specs.declared.RunEnd.{RunEnd}
 use Rattle.run.specs.declared.Tally.{Tally}
@@ -25,7 +25,7 @@ use Rattle.run.specs.RanFrom.{FurtherIn}
 use Rattle.run.specs.Represents.{answered, asOutcome, asRunAnswer}
 use Rattle.run.specs.RunAnswer.{accepted}
 use Rattle.run.specs.Tally.{advanced, endsWith, started}
-use Rattle.run.proofs.GoingLaws.{Going, going-answers, going-ends, going-further, going-on, going-start, reads, reads-finished, reads-next, reads-over}
+use Rattle.run.proofs.GoingLaws.{Going, further-fits, further-not-finished, further-not-over, going-answers, going-ends, going-further, going-on, going-start, reads, reads-finished, reads-next, reads-over}
 use Rattle.stepping.specs.Perform.{Moves, Performed, Ready}
 use Rattle.stepping.specs.Plan.{planOf}
 use Rattle.stepping.specs.State.{Stands, configBytes}
@@ -86,22 +86,11 @@ module _ {k : ℕ} {P : Block} {s l : List ℕ} {used : ℕ} (h : Stands k (at P
   Further = FurtherIn (step fitsWord) (configBytes k) (length l) (at P s)
 
   next-fits : (q : Plan) → NextOf k P s q → Further → used + q .up ≤ length l + q .down
-  next-fits q t g =
-      let same : t .0 ≡ g .0 = next-injective (t .0) (g .0) (sym (t .1) ∙ g .1) in
-      omega (arith, t .2, size, g .2, ap (λ (c : Config). length (configBytes k c)) same)
-    where
-      next-injective : (a b : Config) → next a ≡ next b → a ≡ b
-      next-injective a b e = cc
-
-  not-finished : (vs : List ℕ) → step fitsWord (at P s) ≡ finished vs → Further → ⊥
-  not-finished vs e g = let q = g .1 in let z : _≡_ {A = ℕ} 0 1 = cc in omega arith
-
-  not-over : step fitsWord (at P s) ≡ over → Further → ⊥
-  not-over e g = let q = g .1 in let z : _≡_ {A = ℕ} 0 1 = cc in omega arith
+  next-fits q t g = omega (arith, t .2, size, further-fits (step fitsWord) (configBytes k) (length l) (at P s) (t .0) (t .1) g)
 
   further-by : (q : Plan) (r : Rule) → Tells k P s q r → Further → Moves r × (used + q .up ≤ length l + q .down)
-  further-by q Finished t g = absurd (not-finished s t g)
-  further-by q Over t g = absurd (not-over t g)
+  further-by q Finished t g = absurd (further-not-finished (step fitsWord) (configBytes k) (length l) (at P s) s t g)
+  further-by q Over t g = absurd (further-not-over (step fitsWord) (configBytes k) (length l) (at P s) t g)
   further-by q Store t g = (tt, next-fits q t g)
   further-by q Literal t g = (tt, next-fits q t g)
   further-by q Remove t g = (tt, next-fits q t g)

@@ -1,0 +1,155 @@
+-- Laws of the reducer's run as it is made: it starts from a term that stands, every turn leaves one, and its end is the end of
+-- the rules' run.
+use Prim.Native.Nat.{_+_, _-_, _<_, ℕ, _≤_}
+use mathlib.Core.Path.{ap, refl, subst, sym, _∙_, _≡_}
+use mathlib.Core.Bool.{false, true}
+use mathlib.Core.List.{List}
+use lib.ListN.{length}
+use native.Mathlib.Omega.{arith}
+use Rattle.buffer.specs.Slice.{put, zeros}
+use Rattle.record.specs.Answers.{padded}
+use Rattle.record.specs.Header.{encodeTerm}
+use Rattle.record.specs.Holding.{TermIn}
+use Rattle.record.proofs.AnswerLaws.{length-padded}
+use Rattle.record.proofs.HoldingLaws.{padded-term, term-size}
+use Rattle.record.proofs.PaddedLaws.{cleared-padded}
+use Rattle.redex.specs.Plan.{planOf}
+use Rattle.redex.specs.declared.Plan.{Plan}
+use Rattle.redex.specs.declared.Rule.{Rule}
+use Rattle.redex.specs.declared.Rule.the-variants.{Finished, LetAll, LetOne, Numeral, Over, Stop, Unroll}
+use Rattle.redex.proofs.PlanMeaningLaws.{NextOf, Tells, plan-tells}
+use Rattle.reducing.specs.Perform.{Moves, Performed, Ready}
+use Rattle.reducing.specs.State.{Stands}
+use Rattle.reducing.proofs.PerformLaws.{plan-sums}
+use Rattle.rules.specs.FreeVariables.{noVars}
+use Rattle.rules.specs.Reduction.{reduce}
+use Rattle.rules.specs.Run.{Ran}
+use Rattle.rules.specs.Store.{fitsWord}
+use Rattle.rules.specs.Syntax.{Term}
+use Rattle.run.specs.declared.Outcome.{Outcome}
+use Rattle.run.specs.declared.RunEnd.{RunEnd}
+use Rattle.run.specs.declared.Tally.{Tally}
+use Rattle.run.specs.RanFrom.{FurtherIn}
+use Rattle.run.specs.Represents.{answered, asOutcome, asRunAnswer}
+use Rattle.run.specs.RunAnswer.{accepted}
+use Rattle.run.specs.Tally.{advanced, endsWith, started}
+use Rattle.run.proofs.GoingLaws.{Going, further-fits, further-not-finished, further-not-over, going-answers, going-ends, going-further, going-on, going-start, reads, reads-finished, reads-next, reads-over}
+use Rattle.reducer.specs.RunReducer.{reducedTo, reductions}
+use Rattle.reducer.specs.Running.{Accepted, Gives, acceptedRun, planReads}
+
+-- THE START: zeros behind the record, and the term stands
+
+pub accepted-stands : {k : ℕ} {t : Term} {buf : List ℕ} {used : ℕ} → Accepted k t buf used → (l : List ℕ) → l ≡ put buf used (zeros (length buf - used)) → Stands k t l used
+accepted-stands {k} {t} {buf} {used} h l e =
+    let bytes : List ℕ = encodeTerm k t in
+    let size : used ≡ length bytes = term-size (h .holds) in
+    let is : l ≡ padded (length buf) bytes = e ∙ cleared-padded buf bytes used (h .holds .bytes) (h .holds .within) in
+    let long : length l ≡ length buf = ap length is ∙ length-padded (length buf) bytes (omega (arith, h .holds .within)) in
+    record {
+      holds = subst (λ (q : List ℕ). TermIn noVars k t q used) (sym is)
+          (subst (λ (n : ℕ). TermIn noVars k t (padded (length buf) bytes) n) (sym size)
+          (padded-term noVars k t (length buf) (h .holds .k-low) (h .holds .k-high) (h .holds .sound)));
+      short = omega (arith, h .short);
+      clear = is ∙ ap (λ (n : ℕ). padded n bytes) (sym long);
+    }
+
+-- WHAT A TERM READS, by the plan of its next reduction
+
+module _ {k : ℕ} {u : Term} {l : List ℕ} {used : ℕ} (h : Stands k u l used) where
+  size : used ≡ length (encodeTerm k u)
+  size = term-size (h .holds)
+
+  next-reads : (q : Plan) (t : NextOf k u q) → (used + q .up - q .down) ≡ length (encodeTerm k (t .0))
+  next-reads q t = omega (arith, t .2, size)
+
+  reads-by : (q : Plan) (r : Rule) (room : ℕ) → Tells k u q r → planReads q r used room ≡ reads (reduce fitsWord) (encodeTerm k) room u
+  unfolding planReads
+  reads-by q Finished room t = reads-finished (reduce fitsWord) (encodeTerm k) room u (t .0) (t .1)
+  reads-by q Over room t = reads-over (reduce fitsWord) (encodeTerm k) room u t
+  reads-by q LetOne room t = reads-next (reduce fitsWord) (encodeTerm k) room u (t .0) (used + q .up - q .down) (t .1) (next-reads q t)
+  reads-by q Numeral room t = reads-next (reduce fitsWord) (encodeTerm k) room u (t .0) (used + q .up - q .down) (t .1) (next-reads q t)
+  reads-by q LetAll room t = reads-next (reduce fitsWord) (encodeTerm k) room u (t .0) (used + q .up - q .down) (t .1) (next-reads q t)
+  reads-by q Stop room t = reads-next (reduce fitsWord) (encodeTerm k) room u (t .0) (used + q .up - q .down) (t .1) (next-reads q t)
+  reads-by q Unroll room t = reads-next (reduce fitsWord) (encodeTerm k) room u (t .0) (used + q .up - q .down) (t .1) (next-reads q t)
+
+  plan-reads : (q : Plan) (room : ℕ) → q ≡ planOf u → planReads q (q .rule) used room ≡ reads (reduce fitsWord) (encodeTerm k) room u
+  plan-reads q room e =
+      subst (λ (p : Plan). planReads p (p .rule) used room ≡ reads (reduce fitsWord) (encodeTerm k) room u) (sym e)
+      (reads-by (planOf u) ((planOf u) .rule) room (plan-tells k u))
+
+  -- A FURTHER REDUCTION is one that the plan makes, and there is room for it
+
+  abbrev Further : Type 0
+  Further = FurtherIn (reduce fitsWord) (encodeTerm k) (length l) u
+
+  next-fits : (q : Plan) → NextOf k u q → Further → used + q .up ≤ length l + q .down
+  next-fits q t g = omega (arith, t .2, size, further-fits (reduce fitsWord) (encodeTerm k) (length l) u (t .0) (t .1) g)
+
+  further-by : (q : Plan) (r : Rule) → Tells k u q r → Further → Moves r × (used + q .up ≤ length l + q .down)
+  further-by q Finished t g = absurd (further-not-finished (reduce fitsWord) (encodeTerm k) (length l) u (t .0) (t .1) g)
+  further-by q Over t g = absurd (further-not-over (reduce fitsWord) (encodeTerm k) (length l) u t g)
+  further-by q LetOne t g = (tt, next-fits q t g)
+  further-by q Numeral t g = (tt, next-fits q t g)
+  further-by q LetAll t g = (tt, next-fits q t g)
+  further-by q Stop t g = (tt, next-fits q t g)
+  further-by q Unroll t g = (tt, next-fits q t g)
+
+  further-ready : (q : Plan) → q ≡ planOf u → Further → Ready k u l used q
+  further-ready q e g =
+      let m = subst (λ (p : Plan). Moves (p .rule) × (used + p .up ≤ length l + p .down)) (sym e) (further-by (planOf u) ((planOf u) .rule) (plan-tells k u) g) in
+      record { stands = h; plans = e; moves = m .0; fits = m .1 }
+
+-- BETWEEN TWO REDUCTIONS of the run from t₀: a term stands in the buffer, and from it the run goes on
+
+pub record Between (k : ℕ) (t₀ : Term) (room budget : ℕ) (y : Tally) (buf : List ℕ) (used : ℕ) : Type 0 where
+  pub term : Term
+  pub stands : Stands k term buf used
+  pub going : Going (reduce fitsWord) (encodeTerm k) room budget t₀ y term
+
+pub between-start : {k : ℕ} {t : Term} {l : List ℕ} {used : ℕ} → Stands k t l used → (room budget : ℕ) (y : Tally) → y ≡ started budget → Between k t room budget y l used
+between-start {k} {t} {l} {used} h room budget y e =
+    subst (λ (q : Tally). Between k t room budget q l used) (sym e)
+    (record { term = t; stands = h; going = going-start (reduce fitsWord) (encodeTerm k) room budget t })
+
+-- what the code asks before it looks at the outcome
+pub between-sums : {k : ℕ} {t₀ : Term} {room budget : ℕ} {y : Tally} {l : List ℕ} {used : ℕ} (b : Between k t₀ room budget y l used)
+    → (p : Plan) → p ≡ planOf (b .term) → (used ≤ 16384) × (p .up ≤ used) × (p .down ≤ used)
+between-sums b p e =
+    let m = plan-sums (b .stands) p e in
+    (omega (arith, b .stands .holds .within, b .stands .short), m .0, m .1)
+
+-- a turn: the plan, and the outcome that the code reads from it
+module _ {k : ℕ} {t₀ : Term} {room budget : ℕ} {y : Tally} {l : List ℕ} {used : ℕ} (b : Between k t₀ room budget y l used) (long : length l ≡ room)
+    (p : Plan) (plans : p ≡ planOf (b .term)) (o : Outcome) (read : asOutcome o ≡ planReads p (p .rule) used room) where
+  is-read : asOutcome o ≡ reads (reduce fitsWord) (encodeTerm k) room (b .term)
+  is-read = read ∙ plan-reads (b .stands) p room plans
+
+  -- it goes on
+  on : endsWith o y ≡ false → (0 < y .left) × FurtherIn (reduce fitsWord) (encodeTerm k) room (b .term)
+  on e = going-further (reduce fitsWord) (encodeTerm k) room (b .term) y o is-read e
+
+  pub between-left : endsWith o y ≡ false → (0 < y .left) × (y .steps + y .left ≡ budget)
+  between-left e = (on e .0, b .going .total)
+
+  pub between-ready : endsWith o y ≡ false → Ready k (b .term) l used p
+  between-ready e = further-ready (b .stands) p plans (subst (λ (n : ℕ). FurtherIn (reduce fitsWord) (encodeTerm k) n (b .term)) (sym long) (on e .1))
+
+  pub between-on : endsWith o y ≡ false → (l₁ : List ℕ) (used₁ : ℕ) → Performed k (b .term) (length l) l₁ used₁ → length l₁ ≡ length l → (y₁ : Tally) → y₁ ≡ advanced y
+      → Between k t₀ room budget y₁ l₁ used₁
+  between-on e l₁ used₁ q kept y₁ ey =
+      let d : Term = q .after in
+      let fits : length (encodeTerm k d) ≤ room = omega (arith, q .size, q .stands .holds .within) in
+      let g : Going (reduce fitsWord) (encodeTerm k) room budget t₀ (advanced y) d =
+      going-on (reduce fitsWord) (encodeTerm k) room budget t₀ y (b .term) d (b .going) (q .reduces) fits (on e .0) in
+      subst (λ (z : Tally). Between k t₀ room budget z l₁ used₁) (sym ey) (record { term = d; stands = q .stands; going = g })
+
+  -- it ends
+  pub between-ends : endsWith o y ≡ true → (a : RunEnd) → asRunAnswer a ≡ answered o y used → Gives a l (acceptedRun k t₀ room budget)
+  unfolding reducedTo
+  between-ends e a ea =
+      let r = reductions k room budget t₀ in
+      let left : r .state ≡ b .term = ap (λ (q : Ran Term). q .state) (going-ends (reduce fitsWord) (encodeTerm k) room budget t₀ y (b .term) o (b .going) is-read e) in
+      let size : used ≡ length (encodeTerm k (r .state)) = term-size (b .stands .holds) ∙ ap (λ (c : Term). length (encodeTerm k c)) (sym left) in (
+        ea ∙ going-answers (reduce fitsWord) (encodeTerm k) room budget t₀ y (b .term) o used (b .going) is-read e ∙ ap (accepted budget r) size,
+        b .stands .clear ∙ ap (λ (n : ℕ). padded n (encodeTerm k (b .term))) long ∙ ap (λ (c : Term). padded room (encodeTerm k c)) (sym left),
+      )
