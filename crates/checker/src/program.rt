@@ -101,7 +101,7 @@ fn open_loop(s: &[u8], k: u32) -> Head
     }
 }
 
-// The class decides, then the kind: a program's own, 7, is no command's. A head with nothing inside it ends where the record ends.
+// The class decides, then the kind; 7, a program's own, is no command's. A head with nothing inside ends where the record ends.
 fn open_command(s: &[u8], k: u32) -> Head
     requires { ⌜ Front (now s) (length (now s)) ⌝ }
     ensures { λ r. ⌜ Opens k (now (s .entry)) (r .verdict) (r .inner) ⌝ }
