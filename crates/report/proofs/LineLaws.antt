@@ -14,12 +14,14 @@ use Rattle.buffer.proofs.SliceLaws.{length-zeros}
 use Rattle.record.specs.Answers.{Checked, Wrote, checkProgramRows, checkedBy, padded, wroteBy}
 use Rattle.record.specs.Rows.{NoRow, Row, badBlock, badBuffer, badHeader, badK, blockOutside, firstRow, programRows, row, tooLong}
 use Rattle.record.proofs.AnswerLaws.{checked-accepted, checked-number, padded-zeros, wrote-accepted}
-use Rattle.record.proofs.HeldLaws.{good-k, not-long}
+use Rattle.record.proofs.HeldLaws.{good-header, good-k, not-long}
 use Rattle.record.proofs.RowLaws.{first-none, first-skips, or-intro}
+use Rattle.reducer.specs.RunReducer.{runReducer}
+use Rattle.run.specs.RunAnswer.{RunAnswer}
 use Rattle.stepper.specs.RunStepper.{runStepper}
 use Rattle.term.specs.Calls.{substituteCall, tooShort, translateCall, translateRows, translated}
 use Rattle.term.proofs.CallLaws.{translate-number}
-use Rattle.report.specs.Line.{inputRows, kOfInput, line, lineBy, lineRows, programBudget, programBuffer, recordOf, reducerFrom, reducerRun, refusedLine, runsLine, saidLength, stepperRun, storeOf, substitutedFrom, termOfInput, valuesIn}
+use Rattle.report.specs.Line.{inputRows, kOfInput, line, lineBy, lineRows, programBudget, programBuffer, ranLine, recordOf, reducerFrom, reducerRun, refusedLine, runsLine, saidLength, stepperRun, storeOf, substitutedFrom, termOfInput, valuesIn}
 use Rattle.report.specs.Reads.{Reads, RecordRead, WholeRecord}
 use Rattle.report.proofs.InputLaws.{values-within}
 use Rattle.report.proofs.InputRowsLaws.{InputChecked, first-before, record-buffer, row6, rows-behind, said-read}
@@ -48,6 +50,22 @@ translate-same src used out other e y z =
     wrote-accepted (firstRow (translateRows src used out)) (translated src used) out (sym (translate-number src used out) ∙ y)
     ∙ ap (λ (n : ℕ). record { number = 0; used = length (translated src used); written = padded n (translated src used) }) e
     ∙ sym (wrote-accepted (firstRow (translateRows src used other)) (translated src used) other (sym (translate-number src used other) ∙ z))
+
+-- What the calls answer, each given what the one before it left.
+pub runs-answer : (a : List ℕ) (said : ℕ) (b : List ℕ) (used : ℕ) (vs store after : List ℕ) (filled : Wrote) (s r : RunAnswer)
+    → store ≡ vs → filled ≡ substituteCall b used store
+    → s ≡ (runStepper a said store programBudget) .answer → after ≡ (runStepper a said store programBudget) .store
+    → r ≡ (runReducer (filled .written) (filled .used) programBudget) .answer
+    → ranLine s r after ≡ runsLine (runStepper a said vs programBudget) (reducerFrom (substituteCall b used vs))
+unfolding reducerFrom
+runs-answer a said b used vs store after filled s r e f g i j = rw (g, i, j, f, e) refl
+
+-- the first k of the program's 16 values
+abbrev pub noValues : List ℕ
+noValues = 0 ∷ 0 ∷ 0 ∷ 0 ∷ 0 ∷ 0 ∷ 0 ∷ 0 ∷ 0 ∷ 0 ∷ 0 ∷ 0 ∷ 0 ∷ 0 ∷ 0 ∷ 0 ∷ []
+
+pub values-made : (k : ℕ) → k ≤ 16 → length (take k noValues) ≡ k
+values-made k h = length-take-le k noValues h
 
 -- WHAT AN ACCEPTED INPUT IS
 
@@ -149,16 +167,19 @@ module _ {input a b behind : List ℕ} {total : ℕ} (h : Reads input a b behind
         ∙ ap (λ (x : List ℕ). x ++ zeros n) r ∙ sym (padded-zeros programBuffer n (recordOf input) m)
 
   -- the values
+  behind-is : behind ≡ take 65 (drop (saidLength input) input)
+  behind-is = h .values (p .whole) (omega (arith, good-header 7 (recordOf input) (saidLength input) (p .rows .1 .0) .eight))
+
   pub values-there : 4 * k ≤ length behind
   values-there =
       let d = length-drop (saidLength input) input in
       let t = length-take 65 (drop (saidLength input) input) in
-      let e : length behind ≡ length (take 65 (drop (saidLength input) input)) = ap (length {A = ℕ}) (h .values (p .whole)) in
+      let e : length behind ≡ length (take 65 (drop (saidLength input) input)) = ap (length {A = ℕ}) behind-is in
       omega (arith, p .rest, p .low)
 
   store-is : valuesIn k behind ≡ storeOf input
   store-is =
-      ap (valuesIn k) (h .values (p .whole)) ∙ values-within k 65 (drop (saidLength input) input) (omega (arith, p .low))
+      ap (valuesIn k) behind-is ∙ values-within k 65 (drop (saidLength input) input) (omega (arith, p .low))
       ∙ ap (λ (n : ℕ). valuesIn n (drop (saidLength input) input)) (sym (p .is-k))
 
   pub runs-line : (s : ℕ) → s ≡ saidLength input → (t : Wrote) → t ≡ translateCall (take s a) s b → t .number ≡ 0
