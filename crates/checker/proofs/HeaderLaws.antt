@@ -1,5 +1,5 @@
 -- Rows 2 and 3 by what the record reader finds at the start of the buffer: one law for each way out.
-use Prim.Native.Nat.{_<_, ℕ, _≤_}
+use Prim.Native.Nat.{ℕ, _≤_}
 use mathlib.Core.Path.{_≡_, refl, sym, _∙_}
 use mathlib.Core.Bool.{Bool, false, true}
 use mathlib.Core.List.{List}

@@ -10,7 +10,6 @@ use borrow.Author.Tests.{le-leb, leb-false, leb-true, lt-leb}
 use Rattle.buffer.specs.LittleEndian.{val}
 use Rattle.buffer.specs.Slice.{part}
 use Rattle.reader.specs.Head.{headAt, headIf, kindAt, lengthAt, lengthOf, nextAt, wholeAt, wordAt, wordIf, wordIn}
-use Rattle.reader.specs.declared.Cell.{Cell}
 use Rattle.reader.specs.declared.Cell.the-variants.{Out, Word}
 use Rattle.reader.specs.declared.Head.{Head}
 use Rattle.reader.specs.declared.Head.the-variants.{End, Record, Short}

@@ -1,15 +1,14 @@
 -- Where bytes are left, the reader finds what the record layer's `split` finds.
-use Prim.Native.Nat.{_+_, _-_, _<_, ℕ, _≤_}
+use Prim.Native.Nat.{_+_, _-_, _<_, ℕ}
 use mathlib.Core.Path.{_≡_, ap, refl, sym, _∙_}
 use mathlib.Core.List.{List}
 use lib.ListN.{drop, length, length-drop}
 use lib.Seq.{drop-drop}
 use native.Mathlib.Omega.{arith}
-use Rattle.buffer.specs.LittleEndian.{val}
 use Rattle.buffer.specs.Slice as slice
 use Rattle.buffer.proofs.SliceLaws.{length-part}
 use Rattle.record.specs.Front.{Front, u16}
-use Rattle.record.specs.Record.{Split, part, split}
+use Rattle.record.specs.Record.{part, split}
 use Rattle.record.proofs.FrontLaws.{first-bad, first-no, front-split}
 use Rattle.reader.specs.Head.{headAt, kindAt, lengthAt}
 use Rattle.reader.specs.SplitHead.{splitHead}

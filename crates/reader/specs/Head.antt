@@ -33,11 +33,12 @@ headIf false false n k = Short
 unfoldable pub headAt : List ℕ → ℕ → Head
 headAt l at = headIf (leb (length l) at) (wholeAt l at) (lengthAt l at) (kindAt l at)
 
+-- A word, if there is one.
 unfoldable pub wordIf : Bool → ℕ → Cell
 wordIf true v = Word v
 wordIf false v = Out
 
--- A word is in a record where its 4 bytes are.
+-- A word is in a record where its 4 bytes are (01 "Records": a record's length is that of the whole record).
 unfoldable pub wordIn : Head → ℕ → ℕ → Cell
 wordIn (Record n k) offset v = wordIf (leb (offset + 4) n) v
 wordIn End offset v = Out
@@ -47,7 +48,7 @@ wordIn Short offset v = Out
 unfoldable pub wordAt : List ℕ → ℕ → ℕ → Cell
 wordAt l at offset = wordIn (headAt l at) offset (val (part l (at + offset) 4))
 
--- How many bytes what stands there takes.
+-- How many bytes the record takes that stands there; 0 where none does.
 unfoldable pub lengthOf : Head → ℕ
 lengthOf (Record n k) = n
 lengthOf End = 0

@@ -1,50 +1,37 @@
 use borrow.Author.Needs.{needs}
 use Rattle.reader.proofs.header_at.Statement.{statement}
 use Rattle.reader.proofs.header_at.Tie as tie
-use Rattle.reader.proofs.header_at.Reads as reads
-use Rattle.reader.proofs.header_at.Lts as lts
-use Rattle.buffer.proofs.get_u16.Reads as get-u16-reads
 use native.Mathlib.Omega.{arith}
 use mathlib.Core.Path.{sym}
 use Rattle.reader.proofs.HeadLaws.{head-end, head-record, head-short}
 
--- src/lib.rt:29:9
 returns : tie.Need-returns
 returns c = sym (head-end _ _ (omega arith))
 
--- src/lib.rt:31:8
 sub-if2 : tie.Need-sub-if2
 sub-if2 c = search needs
 
--- src/lib.rt:32:9
 returns-2 : tie.Need-returns-2
 returns-2 c = sym (head-short _ _ (omega arith) (λ least inside. omega (arith, least, inside)))
 
--- src/lib.rt:34:9
 get-u16-requires : tie.Need-get-u16-requires
 get-u16-requires c κs = search needs
 
--- src/lib.rt:36:9
 returns-3 : tie.Need-returns-3
 returns-3 c = sym (head-short _ _ (omega arith) (λ least inside. omega (arith, least, inside)))
 
--- src/lib.rt:38:8
 sub-if4 : tie.Need-sub-if4
 sub-if4 c = search needs
 
--- src/lib.rt:39:9
 returns-4 : tie.Need-returns-4
 returns-4 c = sym (head-short _ _ (omega arith) (λ least inside. omega (arith, least, inside)))
 
--- src/lib.rt:41:39
 add-get-u16 : tie.Need-add-get-u16
 add-get-u16 c = search needs
 
--- src/lib.rt:41:9
 get-u16-requires-2 : tie.Need-get-u16-requires-2
 get-u16-requires-2 c κs = search needs
 
--- src/lib.rt:25:1
 returns-5 : tie.Need-returns-5
 returns-5 c =
     sym (head-record _ _ _ _ (c .before .before .before .get-u16 .ensures .0) (c .get-u162 .ensures .0) (omega arith) (omega arith))
