@@ -13,7 +13,6 @@ use Rattle.record.specs.Rows.{Row, badBuffer, badStore, finishedTerm, firstRow,
 use Rattle.rules.specs.FreeVariables.{allVars, closed, closedIn, noVars}
 use Rattle.rules.specs.ReadBack.{readBack}
 use Rattle.rules.specs.Reduction.{valueOf}
-use Rattle.rules.specs.Store.{fitsWord}
 use Rattle.rules.specs.Substitution.{fromStore, substitute}
 use Rattle.rules.specs.Syntax.{Block, Term, num, tuple}
 use Rattle.rules.specs.Translation.{translate}

@@ -1,10 +1,7 @@
+-- Row 1 by the output, the checker's refusal, or the work on what it accepted.
 use borrow.Author.Needs.{needs}
 use Rattle.term.proofs.read_back.read_back.Statement.{statement}
 use Rattle.term.proofs.read_back.read_back.Tie as tie
-use Rattle.term.proofs.read_back.read_back.Reads as reads
-use Rattle.term.proofs.read_back.read_back.Lts as lts
-use Rattle.checker.proofs.term.check_term.Reads as check-term-reads
-use Rattle.term.proofs.read_back.read_back_checked.Reads as read-back-checked-reads
 use mathlib.Core.Path.{sym}
 use native.Mathlib.Omega.{arith}
 use Rattle.buffer.proofs.LittleEndianLaws.{bytes-of}

@@ -1,11 +1,7 @@
+-- Rows 9 and 10, or the program written.
 use borrow.Author.Needs.{needs}
 use Rattle.term.proofs.read_back.read_back_checked.Statement.{statement}
 use Rattle.term.proofs.read_back.read_back_checked.Tie as tie
-use Rattle.term.proofs.read_back.read_back_checked.Reads as reads
-use Rattle.term.proofs.read_back.read_back_checked.Lts as lts
-use Rattle.readback.proofs.read_back.is_translation.Reads as is-translation-reads
-use Rattle.readback.proofs.read_back.source_size.Reads as source-size-reads
-use Rattle.readback.proofs.read_back.write_source.Reads as write-source-reads
 use native.Mathlib.Omega.{arith}
 use borrow.Author.Tests.{not-false, not-true}
 use Rattle.rules.specs.ReadBack.{readBack}

@@ -1,10 +1,7 @@
+-- The checker's refusal, or the work on what it accepted.
 use borrow.Author.Needs.{needs}
 use Rattle.term.proofs.result.result.Statement.{statement}
 use Rattle.term.proofs.result.result.Tie as tie
-use Rattle.term.proofs.result.result.Reads as reads
-use Rattle.term.proofs.result.result.Lts as lts
-use Rattle.checker.proofs.term.check_term.Reads as check-term-reads
-use Rattle.term.proofs.result.result_checked.Reads as result-checked-reads
 use mathlib.Core.Path.{sym}
 use native.Mathlib.Omega.{arith}
 use Rattle.buffer.proofs.LittleEndianLaws.{bytes-of}

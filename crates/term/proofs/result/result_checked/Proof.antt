@@ -1,12 +1,7 @@
+-- Rows 6 to 8, or the numerals copied.
 use borrow.Author.Needs.{needs}
 use Rattle.term.proofs.result.result_checked.Statement.{statement}
 use Rattle.term.proofs.result.result_checked.Tie as tie
-use Rattle.term.proofs.result.result_checked.Reads as reads
-use Rattle.term.proofs.result.result_checked.Lts as lts
-use Rattle.filling.proofs.closed.is_closed.Reads as is-closed-reads
-use Rattle.filling.proofs.numerals.copy_numerals.Reads as copy-numerals-reads
-use Rattle.filling.proofs.numerals.is_finished.Reads as is-finished-reads
-use native.Mathlib.Omega.{arith}
 use mathlib.Core.Path.{sym, _∙_}
 use borrow.Author.Tests.{not-false, not-true}
 use Rattle.term.proofs.AnsweredLaws.{numerals-of, result-eight, result-seven, result-six, result-zero}

@@ -1,9 +1,7 @@
+-- Row 6, or the store substituted.
 use borrow.Author.Needs.{needs}
 use Rattle.term.proofs.substitute.substitute_checked.Statement.{statement}
 use Rattle.term.proofs.substitute.substitute_checked.Tie as tie
-use Rattle.term.proofs.substitute.substitute_checked.Reads as reads
-use Rattle.term.proofs.substitute.substitute_checked.Lts as lts
-use Rattle.filling.proofs.substitution.substitute_record.Reads as substitute-record-reads
 use native.Mathlib.Omega.{arith}
 use Rattle.term.proofs.AnsweredLaws.{substitute-six, substitute-zero}
 

@@ -1,10 +1,7 @@
+-- Row 1 by the output, the checker's refusal, or the work on what it accepted.
 use borrow.Author.Needs.{needs}
 use Rattle.term.proofs.translate.translate.Statement.{statement}
 use Rattle.term.proofs.translate.translate.Tie as tie
-use Rattle.term.proofs.translate.translate.Reads as reads
-use Rattle.term.proofs.translate.translate.Lts as lts
-use Rattle.checker.proofs.program.check_program.Reads as check-program-reads
-use Rattle.term.proofs.translate.translate_checked.Reads as translate-checked-reads
 use mathlib.Core.Path.{sym}
 use Rattle.buffer.proofs.LittleEndianLaws.{bytes-of}
 use Rattle.record.proofs.CheckedRowLaws.{program-accepted}

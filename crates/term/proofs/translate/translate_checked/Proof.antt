@@ -1,10 +1,7 @@
+-- Row 10, or the translation written.
 use borrow.Author.Needs.{needs}
 use Rattle.term.proofs.translate.translate_checked.Statement.{statement}
 use Rattle.term.proofs.translate.translate_checked.Tie as tie
-use Rattle.term.proofs.translate.translate_checked.Reads as reads
-use Rattle.term.proofs.translate.translate_checked.Lts as lts
-use Rattle.translator.proofs.translation.translation_size.Reads as translation-size-reads
-use Rattle.translator.proofs.translation.write_translation.Reads as write-translation-reads
 use native.Mathlib.Omega.{arith}
 use Rattle.term.proofs.AnsweredLaws.{translate-ten, translate-zero}
 
