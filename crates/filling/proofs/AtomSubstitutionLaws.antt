@@ -16,9 +16,9 @@ use Rattle.place.proofs.AtLaws.{put-same}
 use Rattle.place.proofs.TermSubstitutionLaws.{num-stored, onward-row, row-empty}
 use Rattle.place.proofs.TermViewLaws.{as-num, as-ref, atom-kind, atom-view}
 use Rattle.filling.specs.Ranged.{RangedAtom, RangedAtoms}
-use Rattle.filling.specs.Values.{substitutionOf}
+use Rattle.numerals.specs.Values.{substitutionOf}
 use Rattle.filling.proofs.RangedLaws.{Row, ranged-first}
-use Rattle.filling.proofs.ValuesLaws.{value-none, value-some}
+use Rattle.numerals.proofs.ValuesLaws.{value-none, value-some}
 
 -- ONE ATOM
 

@@ -1,6 +1,4 @@
-pub mod ValuesLaws
 pub mod AtomSubstitutionLaws
 pub mod RangedLaws
 pub mod SubstituteAtLaws
 pub mod ClosedLaws
-pub mod NumeralsLaws

@@ -14,9 +14,9 @@ use Rattle.rules.specs.Syntax.{Atom, Term, tuple}
 use Rattle.place.proofs.TermSubstitutionLaws.{onward-letAll, onward-letOne, onward-rec, onward-tuple}
 use Rattle.filling.specs.BoundAtom.{boundAtom}
 use Rattle.filling.specs.Ranged.{RangedAtom, RangedTerm}
-use Rattle.filling.specs.Values.{substitutionOf}
+use Rattle.numerals.specs.Values.{substitutionOf}
 use Rattle.filling.proofs.RangedLaws.{RangedLetAll, RangedLetOne, RangedRec, RangedTuple, letOne-atom}
-use Rattle.filling.proofs.ValuesLaws.{values-except}
+use Rattle.numerals.proofs.ValuesLaws.{values-except}
 
 -- A term stands at p, and storing its substitution there gives `to`.
 pub record Todo (w l : List ℕ) (p k : ℕ) (to : List ℕ) : Type 0 where

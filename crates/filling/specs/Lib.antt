@@ -1,4 +1,3 @@
-pub mod Values
 pub mod Ranged
 pub mod BoundAtom
 pub mod Marks

@@ -11,11 +11,11 @@ ghost use Rattle.filling.specs.Marks.{marked};
 ghost use Rattle.filling.specs.Ranged.{RangedAtom, RangedAtoms, RangedTerm};
 use crate::path::LET_ALL;
 use crate::path::LET_ONE;
-use crate::path::TUPLE;
 use crate::path::VARIABLE;
 use crate::path::bound_atom;
 use buffer::get_u16;
 use buffer::get_u32;
+use numerals::TUPLE;
 use record::HEADER_LENGTH;
 
 fn closed_atom(buf: &[u8], at: usize, bound: &[bool; 17]) -> bool

@@ -1,6 +1,4 @@
-// Substitution in place, the test for free variables, and a finished term's values. Works on a checked term.
+// Substitution in place, and the test for free variables. Works on a checked term.
 pub mod closed;
-pub mod numerals;
 mod path;
 pub mod substitution;
-pub mod values;

@@ -13,8 +13,6 @@ pub const VARIABLE: usize = 33;
 
 pub const SUCC: usize = 34;
 
-pub const TUPLE: usize = 36;
-
 pub const LET_ONE: usize = 37;
 
 pub const LET_ALL: usize = 38;

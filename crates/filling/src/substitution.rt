@@ -12,20 +12,20 @@ ghost use Rattle.rules.specs.FreeVariables.{allVars};
 ghost use Rattle.rules.specs.Substitution.{fromStore, substitute, substituteAtom};
 ghost use Rattle.rules.specs.Syntax.{Atom, Term};
 ghost use Rattle.filling.specs.Ranged.{RangedAtom, RangedAtoms, RangedTerm};
-ghost use Rattle.filling.specs.Values.{substitutionOf};
+ghost use Rattle.numerals.specs.Values.{substitutionOf};
 use crate::path::LET_ALL;
 use crate::path::LET_ONE;
 use crate::path::NUMERAL;
-use crate::path::TUPLE;
 use crate::path::VARIABLE;
 use crate::path::bound_atom;
-use crate::values::STAYS;
-use crate::values::from_store;
 use buffer::get_u16;
 use buffer::get_u32;
 use buffer::put_u16;
 use buffer::put_u32;
 use buffer::zero;
+use numerals::TUPLE;
+use numerals::values::STAYS;
+use numerals::values::from_store;
 use record::HEADER_LENGTH;
 
 fn substitute_atom(buf: &mut [u8], at: usize, values: &[u64; 17])

@@ -23,8 +23,8 @@ use edit::put_leaf;
 use edit::relength;
 use edit::remove;
 use filling::substitution::substitute_at;
-use filling::values::from_tuple;
-use filling::values::only;
+use numerals::values::from_tuple;
+use numerals::values::only;
 use redex::Plan;
 use redex::Rule;
 

@@ -12,7 +12,7 @@ use Rattle.rules.specs.FreeVariables.{atomOfSimple}
 use Rattle.rules.specs.Substitution.{substitute}
 use Rattle.rules.specs.Syntax.{Term}
 use Rattle.filling.specs.Ranged.{RangedTerm}
-use Rattle.filling.specs.Values.{substitutionOf}
+use Rattle.numerals.specs.Values.{substitutionOf}
 use Rattle.filling.proofs.AtomSubstitutionLaws.{atom-room}
 use Rattle.filling.proofs.RangedLaws.{else-rec, ranged-letAll, ranged-letOne, ranged-room, ranged-tuple, letOne-atom}
 use Rattle.filling.proofs.SubstituteAtLaws.{Todo, letAll-next, letOne-next, rec-next, todo-begin, tuple-done}

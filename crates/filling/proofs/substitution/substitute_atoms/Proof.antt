@@ -11,7 +11,7 @@ use Rattle.record.specs.Term.{encodeAtoms}
 use Rattle.rules.specs.Substitution.{substituteAtom}
 use Rattle.rules.specs.Syntax.{Atom}
 use Rattle.filling.specs.Ranged.{RangedAtoms}
-use Rattle.filling.specs.Values.{substitutionOf}
+use Rattle.numerals.specs.Values.{substitutionOf}
 use Rattle.filling.proofs.AtomSubstitutionLaws.{SubstituteRow, row-begin, row-done, row-first}
 use borrow.Author.Needs.{needs}
 use Rattle.filling.proofs.RangedLaws.{row-moved, row-room}

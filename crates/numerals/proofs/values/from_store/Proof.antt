@@ -1,13 +1,13 @@
 -- After i turns the array stands for the first i values of the store.
-use Rattle.filling.proofs.values.from_store.Statement.{statement}
-use Rattle.filling.proofs.values.from_store.Tie as tie
+use Rattle.numerals.proofs.values.from_store.Statement.{statement}
+use Rattle.numerals.proofs.values.from_store.Tie as tie
 use Prim.Native.Nat.{_-_, _≤_}
 use mathlib.Core.Path.{_≡_}
 use native.Mathlib.Omega.{arith}
 use lib.ListN.{length, length-set, take}
 use Rattle.rules.specs.Substitution.{fromStore}
-use Rattle.filling.specs.Values.{substitutionOf}
-use Rattle.filling.proofs.ValuesLaws.{blank, built-all, built-next, built-none, length-blank}
+use Rattle.numerals.specs.Values.{substitutionOf}
+use Rattle.numerals.proofs.ValuesLaws.{blank, built-all, built-next, built-none, length-blank}
 use borrow.Author.Needs.{needs}
 
 abbrev Inv-loop : tie.InvT-loop

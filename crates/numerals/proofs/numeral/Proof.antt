@@ -1,6 +1,6 @@
 -- Each atom of the row takes 8 bytes, its number the last four.
-use Rattle.filling.proofs.numerals.numeral.Statement.{statement}
-use Rattle.filling.proofs.numerals.numeral.Tie as tie
+use Rattle.numerals.proofs.numeral.Statement.{statement}
+use Rattle.numerals.proofs.numeral.Tie as tie
 use mathlib.Core.Path.{_∙_}
 use native.Mathlib.Omega.{arith}
 use Rattle.place.proofs.NumeralsLaws.{nth-numeral}

@@ -1,4 +1,4 @@
-// The numerals of a finished term.
+// The numerals of a finished term, and values as a substitution.
 ghost use mathlib.Core.Path.{_≡_};
 ghost use mathlib.Core.List.{List, map};
 ghost use Prim.Native.Nat.{ℕ, _<_, _≤_};
@@ -8,10 +8,14 @@ ghost use Rattle.record.specs.Holding.{TermIn};
 ghost use Rattle.record.specs.Rows.{finishedTerm};
 ghost use Rattle.rules.specs.FreeVariables.{allVars, noVars};
 ghost use Rattle.rules.specs.Syntax.{Term, num, tuple};
-use crate::path::TUPLE;
 use buffer::get_u16;
 use buffer::get_u32;
 use record::HEADER_LENGTH;
+
+pub mod values;
+
+// The kind of a tuple.
+pub const TUPLE: usize = 36;
 
 pub fn is_finished(buf: &[u8], used: usize) -> bool
     requires { ⌜ ((k : ℕ) × ((t : Term) × TermIn allVars k t (now buf) used)) × (length (now buf) ≤ 16384) ⌝ }
@@ -21,7 +25,7 @@ pub fn is_finished(buf: &[u8], used: usize) -> bool
 }
 
 // The numeral number i of the row of atoms at an index.
-pub(crate) fn numeral(buf: &[u8], at: usize, i: usize) -> u32
+fn numeral(buf: &[u8], at: usize, i: usize) -> u32
     requires { ⌜ ((vs : List ℕ) × (AtomsAt (now buf) at (map num vs) × (i < length vs))) ⌝ }
     ensures { λ r. ⌜ ((vs : List ℕ) → AtomsAt (now (buf .entry)) at (map num vs) → i < length vs → r ≡ getD vs i 0) ⌝ }
 {

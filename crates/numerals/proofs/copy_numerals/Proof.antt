@@ -1,6 +1,6 @@
 -- After i turns the first i numerals stand in the store.
-use Rattle.filling.proofs.numerals.copy_numerals.Statement.{statement}
-use Rattle.filling.proofs.numerals.copy_numerals.Tie as tie
+use Rattle.numerals.proofs.copy_numerals.Statement.{statement}
+use Rattle.numerals.proofs.copy_numerals.Tie as tie
 use borrow.Author.Needs.{needs}
 use mathlib.Core.Path.{_≡_, refl, sym, _∙_}
 use mathlib.Core.List.{List, map}
@@ -11,7 +11,7 @@ use Rattle.buffer.specs.Slice.{part, put}
 use Rattle.record.specs.Holding.{TermIn}
 use Rattle.rules.specs.FreeVariables.{noVars}
 use Rattle.rules.specs.Syntax.{num, tuple}
-use Rattle.filling.proofs.NumeralsLaws.{copied-all, copied-none, copied-turn, record-row}
+use Rattle.numerals.proofs.NumeralsLaws.{copied-all, copied-none, copied-turn, record-row}
 
 abbrev Inv-loop : tie.InvT-loop
 Inv-loop buf used k store₀ i₀ store i =

@@ -1,7 +1,7 @@
 -- The kind behind the header tells a tuple.
 use borrow.Author.Needs.{needs}
-use Rattle.filling.proofs.numerals.is_finished.Statement.{statement}
-use Rattle.filling.proofs.numerals.is_finished.Tie as tie
+use Rattle.numerals.proofs.is_finished.Statement.{statement}
+use Rattle.numerals.proofs.is_finished.Tie as tie
 use mathlib.Core.Path.{ap, _∙_}
 use native.Mathlib.Omega.{arith}
 use Prim.Native.Nat.{ℕ}

@@ -1,9 +1,9 @@
 -- The one store into an array in which every variable stays.
 use borrow.Author.Needs.{needs}
-use Rattle.filling.proofs.values.only.Statement.{statement}
-use Rattle.filling.proofs.values.only.Tie as tie
+use Rattle.numerals.proofs.values.only.Statement.{statement}
+use Rattle.numerals.proofs.values.only.Tie as tie
 use lib.ListN.{length-set}
-use Rattle.filling.proofs.ValuesLaws.{blank, length-blank, values-only}
+use Rattle.numerals.proofs.ValuesLaws.{blank, length-blank, values-only}
 
 wide64-requires : tie.Need-wide64-requires
 wide64-requires c κs = search needs

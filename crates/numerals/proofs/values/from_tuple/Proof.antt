@@ -1,6 +1,6 @@
 -- After i turns the array stands for the first i numerals.
-use Rattle.filling.proofs.values.from_tuple.Statement.{statement}
-use Rattle.filling.proofs.values.from_tuple.Tie as tie
+use Rattle.numerals.proofs.values.from_tuple.Statement.{statement}
+use Rattle.numerals.proofs.values.from_tuple.Tie as tie
 use borrow.Author.Needs.{needs}
 use Prim.Native.Nat.{ℕ, _-_, _<_, _≤_}
 use mathlib.Core.List.{List, map}
@@ -12,8 +12,8 @@ use Rattle.rules.specs.Syntax.{num, tuple}
 use Rattle.place.specs.TermView.{TermAt}
 use Rattle.place.proofs.NumeralsLaws.{numerals-row}
 use Rattle.place.proofs.TermViewLaws.{term-room}
-use Rattle.filling.specs.Values.{substitutionOf}
-use Rattle.filling.proofs.ValuesLaws.{blank, built-all, built-next, built-none, length-blank}
+use Rattle.numerals.specs.Values.{substitutionOf}
+use Rattle.numerals.proofs.ValuesLaws.{blank, built-all, built-next, built-none, length-blank}
 
 abbrev Inv-loop : tie.InvT-loop
 Inv-loop buf at k values₀ count i₀ values i =

@@ -7,8 +7,8 @@ ghost use Rattle.place.specs.TermView.{TermAt};
 ghost use Rattle.rules.specs.Store.{wordLimit};
 ghost use Rattle.rules.specs.Substitution.{fromStore, only as onlyOf};
 ghost use Rattle.rules.specs.Syntax.{num, tuple};
-ghost use Rattle.filling.specs.Values.{substitutionOf};
-use crate::numerals::numeral;
+ghost use Rattle.numerals.specs.Values.{substitutionOf};
+use crate::numeral;
 
 // Above every value: a variable with this number stays.
 pub const STAYS: u64 = 4294967296;
@@ -29,7 +29,7 @@ pub fn only(x: usize, v: u32) -> [u64; 17]
     values
 }
 
-pub(crate) fn from_store(store: &[u32]) -> [u64; 17]
+pub fn from_store(store: &[u32]) -> [u64; 17]
     requires { ⌜ length (now store) ≤ 16 ⌝ }
     ensures { λ r. ⌜ (length r ≡ 17) × (substitutionOf r ≡ fromStore (now (store .entry))) ⌝ }
 {

@@ -12,7 +12,7 @@ use native.Mathlib.Numerals.{add-one}
 use native.Mathlib.Omega.{arith}
 use Rattle.rules.specs.Store.{wordLimit}
 use Rattle.rules.specs.Substitution.{except, fromStore, only}
-use Rattle.filling.specs.Values.{substitutionOf, valueIf}
+use Rattle.numerals.specs.Values.{substitutionOf, valueIf}
 
 -- WHAT IS READ
 

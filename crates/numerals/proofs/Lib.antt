@@ -1,0 +1,2 @@
+pub mod ValuesLaws
+pub mod NumeralsLaws
