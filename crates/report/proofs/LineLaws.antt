@@ -14,7 +14,7 @@ use Rattle.buffer.proofs.SliceLaws.{length-zeros}
 use Rattle.record.specs.Answers.{Checked, Wrote, checkProgramRows, checkedBy, padded, wroteBy}
 use Rattle.record.specs.Rows.{NoRow, Row, badBlock, badBuffer, badHeader, badK, blockOutside, firstRow, programRows, row, tooLong}
 use Rattle.record.proofs.AnswerLaws.{checked-accepted, checked-number, padded-zeros, wrote-accepted}
-use Rattle.record.proofs.HeldLaws.{good-k, not-long}
+use Rattle.record.proofs.HeldLaws.{good-header, good-k, not-long}
 use Rattle.record.proofs.RowLaws.{first-none, first-skips, or-intro}
 use Rattle.reducer.specs.RunReducer.{runReducer}
 use Rattle.run.specs.RunAnswer.{RunAnswer}
@@ -167,16 +167,19 @@ module _ {input a b behind : List ℕ} {total : ℕ} (h : Reads input a b behind
         ∙ ap (λ (x : List ℕ). x ++ zeros n) r ∙ sym (padded-zeros programBuffer n (recordOf input) m)
 
   -- the values
+  behind-is : behind ≡ take 65 (drop (saidLength input) input)
+  behind-is = h .values (p .whole) (omega (arith, good-header 7 (recordOf input) (saidLength input) (p .rows .1 .0) .eight))
+
   pub values-there : 4 * k ≤ length behind
   values-there =
       let d = length-drop (saidLength input) input in
       let t = length-take 65 (drop (saidLength input) input) in
-      let e : length behind ≡ length (take 65 (drop (saidLength input) input)) = ap (length {A = ℕ}) (h .values (p .whole)) in
+      let e : length behind ≡ length (take 65 (drop (saidLength input) input)) = ap (length {A = ℕ}) behind-is in
       omega (arith, p .rest, p .low)
 
   store-is : valuesIn k behind ≡ storeOf input
   store-is =
-      ap (valuesIn k) (h .values (p .whole)) ∙ values-within k 65 (drop (saidLength input) input) (omega (arith, p .low))
+      ap (valuesIn k) behind-is ∙ values-within k 65 (drop (saidLength input) input) (omega (arith, p .low))
       ∙ ap (λ (n : ℕ). valuesIn n (drop (saidLength input) input)) (sym (p .is-k))
 
   pub runs-line : (s : ℕ) → s ≡ saidLength input → (t : Wrote) → t ≡ translateCall (take s a) s b → t .number ≡ 0

@@ -21,8 +21,9 @@ pub record RecordRead (input a : List ℕ) (total : ℕ) : Type 0 where
   pub first : 2 ≤ length input → take 2 a ≡ take 2 input
   pub whole : WholeRecord input → take (saidLength input) a ≡ recordOf input
 
--- Beside it the reducer's buffer b, and the first 65 bytes behind the record: one more than the values can take.
+-- Beside it the reducer's buffer b, and the first 65 bytes behind the record: one more than the values can take. Of a length
+-- under 2, which is refused, nothing is asked.
 pub record Reads (input a b behind : List ℕ) (total : ℕ) : Type 0 where
   pub lead : RecordRead input a total
   pub room : length b ≡ programBuffer
-  pub values : WholeRecord input → behind ≡ take 65 (drop (saidLength input) input)
+  pub values : WholeRecord input → 2 ≤ saidLength input → behind ≡ take 65 (drop (saidLength input) input)
