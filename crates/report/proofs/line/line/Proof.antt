@@ -9,7 +9,7 @@ use Rattle.buffer.proofs.zero.Reads as zero-reads
 use Rattle.report.proofs.input.check_input.Reads as check-input-reads
 use Rattle.report.proofs.line.run_both.Reads as run-both-reads
 use Rattle.report.proofs.print.put_refused.Reads as put-refused-reads
-use Rattle.report.proofs.stub.translate.Reads as translate-reads
+use Rattle.term.proofs.translate.translate.Reads as translate-reads
 use native.Mathlib.Omega.{arith}
 use mathlib.Core.Path.{_∙_, _≡_, ap, sym}
 use Prim.Native.Nat.{ℕ}
