@@ -15,23 +15,13 @@ use Rattle.record.specs.Answers.{Checked, checkProgram, checkProgramRows, check
 use Rattle.record.specs.Holding.{ProgramIn}
 use Rattle.record.specs.Rows.{NoRow, Row, badBlock, badBuffer, badHeader, badK, blockOutside, firstRow, programRows, row}
 use Rattle.record.proofs.AnswerLaws.{check-program-number, check-program-refused, checked-accepted, checked-refused}
+use Rattle.record.proofs.CheckedRowLaws.{first-before}
 use Rattle.record.proofs.HeldLaws.{buffer-good}
 use Rattle.record.proofs.HoldingLaws.{check-program, program-k}
 use Rattle.record.proofs.RowLaws.{first-applies, first-none, first-skips, none-first}
 use Rattle.rules.specs.Syntax.{Block}
 use Rattle.report.specs.Line.{inputRows, kOfInput, programBuffer, recordOf, saidLength}
 use Rattle.report.specs.Reads.{RecordRead, WholeRecord}
-
--- rows behind others do not matter where one of these applies
-pub first-before : (rs more : List Row) → (firstRow rs ≡ 0 → ⊥) → firstRow (rs ++ more) ≡ firstRow rs
-first-before [] more h = absurd (h (none-first [] tt))
-first-before (r ∷ rs) more h = go (λ z. first-before rs more z) (r .applies) refl
-  where
-    go : ((firstRow rs ≡ 0 → ⊥) → firstRow (rs ++ more) ≡ firstRow rs) → (b : Bool) → r .applies ≡ b → firstRow (r ∷ (rs ++ more)) ≡ firstRow (r ∷ rs)
-    go ih true e = first-applies (r .number) (r .applies) (rs ++ more) e ∙ sym (first-applies (r .number) (r .applies) rs e)
-    go ih false e =
-        let s = first-skips (r .number) (r .applies) rs e in
-        first-skips (r .number) (r .applies) (rs ++ more) e ∙ ih (λ z. h (s ∙ z)) ∙ sym s
 
 -- The row behind the record's own.
 abbrev pub row6 : List ℕ → Row

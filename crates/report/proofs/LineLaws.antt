@@ -14,6 +14,7 @@ use Rattle.buffer.proofs.SliceLaws.{length-zeros}
 use Rattle.record.specs.Answers.{Checked, Wrote, checkProgramRows, checkedBy, padded, wroteBy}
 use Rattle.record.specs.Rows.{NoRow, Row, badBlock, badBuffer, badHeader, badK, blockOutside, firstRow, programRows, row, tooLong}
 use Rattle.record.proofs.AnswerLaws.{checked-accepted, checked-number, padded-zeros, wrote-accepted}
+use Rattle.record.proofs.CheckedRowLaws.{first-before}
 use Rattle.record.proofs.HeldLaws.{good-header, good-k, not-long}
 use Rattle.record.proofs.RowLaws.{first-none, first-skips, or-intro}
 use Rattle.reducer.specs.RunReducer.{runReducer}
@@ -24,7 +25,7 @@ use Rattle.term.proofs.CallLaws.{translate-number}
 use Rattle.report.specs.Line.{inputRows, kOfInput, line, lineBy, lineRows, programBudget, programBuffer, ranLine, recordOf, reducerFrom, reducerRun, refusedLine, runsLine, saidLength, stepperRun, storeOf, substitutedFrom, termOfInput, valuesIn}
 use Rattle.report.specs.Reads.{Reads, RecordRead, WholeRecord}
 use Rattle.report.proofs.InputLaws.{values-within}
-use Rattle.report.proofs.InputRowsLaws.{InputChecked, first-before, record-buffer, row6, rows-behind, said-read}
+use Rattle.report.proofs.InputRowsLaws.{InputChecked, record-buffer, row6, rows-behind, said-read}
 
 blank : length (replicate {A = ℕ} programBuffer 0) ≡ programBuffer
 blank = length-replicate {A = ℕ} programBuffer 0

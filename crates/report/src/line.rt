@@ -1,0 +1,68 @@
+// The program's line: the input's refusals, the two runs, the printing.
+ghost use mathlib.Core.Path.{_≡_};
+ghost use mathlib.Core.List.{List};
+ghost use Prim.Native.Nat.{ℕ, _*_, _≤_};
+ghost use lib.ListN.{length, take};
+ghost use Rattle.report.specs.Line as spec;
+ghost use Rattle.report.specs.Line.{programBudget, programBuffer, reducerFrom, runsLine, valuesIn};
+ghost use Rattle.report.specs.Reads.{Reads};
+ghost use Rattle.stepper.specs.RunStepper.{runStepper};
+ghost use Rattle.term.specs.Calls.{substituteCall};
+use crate::input::check_input;
+use crate::input::read_values;
+use crate::print::put_ran;
+use crate::print::put_refused;
+use buffer::get_u16;
+use buffer::zero;
+use reducer::run_reducer;
+use stepper::run_stepper;
+use term::substitute::substitute;
+use term::translate::translate;
+
+const BUDGET: u32 = 1000000;
+
+// Both runs, each in its buffer, and their line in the reducer's, which is free by then. The store is filled in before the
+// stepper changes it.
+fn run_both(
+    a: &mut [u8],
+    said: usize,
+    b: &mut [u8],
+    used: usize,
+    behind: &[u8],
+    store: &mut [u32],
+) -> usize
+    requires { ⌜ (length (now b) ≡ programBuffer) × (length (now store) ≤ 16) × (4 * length (now store) ≤ length (now behind)) ⌝ }
+    ensures { λ r. ⌜ (take r (now (b .exit)) ≡ runsLine (runStepper (now (a .entry)) said (valuesIn (length (now (store .entry))) (now (behind .entry))) programBudget) (reducerFrom (substituteCall (now (b .entry)) used (valuesIn (length (now (store .entry))) (now (behind .entry)))))) × (r ≤ 256) ⌝ }
+{
+    read_values(behind, store);
+    let filled = substitute(b, used, store);
+    let stepper = run_stepper(a, said, store, BUDGET);
+    let reducer = run_reducer(b, filled.used as usize, BUDGET);
+    put_ran(b, stepper, reducer, store)
+}
+
+// The first r bytes of the reducer's buffer are the line.
+pub fn line(a: &mut [u8], b: &mut [u8], behind: &[u8], total: usize) -> usize
+    requires { ⌜ ((input : List ℕ) × Reads input (now a) (now b) (now behind) total) ⌝ }
+    ensures { λ r. ⌜ ((input : List ℕ) → Reads input (now (a .entry)) (now (b .entry)) (now (behind .entry)) total → take r (now (b .exit)) ≡ spec.line input) × (r ≤ 256) ⌝ }
+{
+    let checked = check_input(a, total);
+    if checked.number != 0 {
+        return put_refused(b, checked.number);
+    }
+    let said = get_u16(a, 0);
+    let term = translate(&a[..said], said, b);
+    if term.number != 0 {
+        return put_refused(b, term.number);
+    }
+    zero(a, said, a.len() - said);
+    let mut store = [0; 16];
+    run_both(
+        a,
+        said,
+        b,
+        term.used as usize,
+        behind,
+        &mut store[..checked.k as usize],
+    )
+}
