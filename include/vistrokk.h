@@ -61,15 +61,23 @@ uint32_t vistrokk_result(const uint8_t *buf, size_t buf_len, size_t used, uint32
  * every other variable 0. Answers 0, or 6 with the store as it was. */
 uint32_t vistrokk_weigh(uint32_t gross, uint32_t tare, uint32_t *store, size_t store_len);
 
-/* How a run ended. number: 0 or the refusal. outcome: 1 finished, 2 over (the next step would give 4,294,967,296), 3 no room
- * (the next state is longer than the buffer), 4 spent (the whole budget was used, and a further step is possible), 0 with a
- * refusal. steps: made in this run; left: budget left; used: the new used length. These three are 0 with a refusal. */
+/* The outcomes of a run, read from the state that is left, first match. Over: the next step would give 4,294,967,296. No room:
+ * the next state is longer than the buffer. Spent: the whole budget was used, and a further step is possible. */
+enum { VISTROKK_REFUSED = 0, VISTROKK_FINISHED = 1, VISTROKK_OVER = 2, VISTROKK_NO_ROOM = 3, VISTROKK_SPENT = 4 };
+
+/* How a run ended. number: 0 or the refusal. outcome: one of the above. steps: made in this run; left: budget left; used: the
+ * new used length. These three are 0 with a refusal. */
 typedef struct { uint32_t number, outcome, steps, left, used; } vistrokk_ran;
 
 /* Makes up to `budget` steps of a program. Lent: the program's record in buf, of which the whole of buf_len is room to grow,
  * and its store of k values; both are changed in place. Refusals 1 to 6. Accepted, buf holds the record of the program that is
  * left and zeros behind it up to buf_len, also after 0 steps, and the store has its values. */
 vistrokk_ran vistrokk_run_stepper(uint8_t *buf, size_t buf_len, size_t used, uint32_t *store, size_t store_len, uint32_t budget);
+
+/* Makes up to `budget` reductions of a closed term. Lent: the term's record in buf, of which the whole of buf_len is room to
+ * grow; it is changed in place. Refusals 1 to 5 and 7. Accepted, buf holds the record of the term that is left and zeros behind
+ * it up to buf_len, also after 0 reductions. */
+vistrokk_ran vistrokk_run_reducer(uint8_t *buf, size_t buf_len, size_t used, uint32_t budget);
 
 #ifdef __cplusplus
 }

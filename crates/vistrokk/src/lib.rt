@@ -5,6 +5,7 @@ ghost use Rattle.record.specs.Answers.{checkProgram, checkTerm};
 ghost use Rattle.checker.specs.Answer.{asChecked};
 ghost use Rattle.run.specs.Represents.{inNumbers};
 ghost use Rattle.stepper.specs.RunStepper.{runStepper};
+ghost use Rattle.reducer.specs.RunReducer.{runReducer};
 ghost use Rattle.term.specs.Answer.{asWrote};
 ghost use Rattle.term.specs.Calls.{readBackCall, resultCall, substituteCall, translateCall};
 ghost use Rattle.weighing.specs.Weigh.{weighCall};
@@ -68,4 +69,11 @@ pub extern "C" fn vistrokk_run_stepper(
     ensures { λ r. ⌜ (r ≡ inNumbers ((runStepper (now (buf .entry)) used (now (store .entry)) budget) .answer)) × (now (buf .exit) ≡ (runStepper (now (buf .entry)) used (now (store .entry)) budget) .buf) × (now (store .exit) ≡ (runStepper (now (buf .entry)) used (now (store .entry)) budget) .store) ⌝ }
 {
     run::in_numbers(stepper::run_stepper(buf, used, store, budget))
+}
+
+#[no_mangle]
+pub extern "C" fn vistrokk_run_reducer(buf: &mut [u8], used: usize, budget: u32) -> run::RunNumbers
+    ensures { λ r. ⌜ (r ≡ inNumbers ((runReducer (now (buf .entry)) used budget) .answer)) × (now (buf .exit) ≡ (runReducer (now (buf .entry)) used budget) .buf) ⌝ }
+{
+    run::in_numbers(reducer::run_reducer(buf, used, budget))
 }
