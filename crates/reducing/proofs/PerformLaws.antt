@@ -359,11 +359,10 @@ module _ {k : ℕ} {t : Term} {l : List ℕ} {used : ℕ} (h : Stands k t l used
   -- BEFORE THE ROOM IS KNOWN: what comes and what goes is no longer than the record
 
   sums-by : (t₀ : Term) (q : Plan) → Planned (length (termPath t)) place t₀ q → redex t ≡ t₀ → (q .up ≤ used) × (q .down ≤ used)
-  unfolding simpleSize
   sums-by _ _ plannedFinished is = (omega arith, omega arith)
   sums-by _ _ plannedOver is = (omega arith, omega arith)
   sums-by _ _ (plannedLetOne {x} {v} {a} {u} st) is =
-      let z : termSize (letOne x (plain a) u) ≡ 8 + simpleSize (plain a) + termSize u = termSize-letOne x (plain a) u in
+      let z : termSize (letOne x (plain a) u) ≡ 16 + termSize u = termSize-plain x a u in
       let room : place + (4 + termSize (letOne x (plain a) u)) ≤ used = room₀ (letOne x (plain a) u) is in
       (omega arith, omega arith)
   sums-by _ _ (plannedNumeral {x} {v} {s} {u} e st) is =
