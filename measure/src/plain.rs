@@ -2,16 +2,20 @@
 //! with recursion where the grammar has it, and with no proof. What the library is to be held to.
 
 pub mod check;
+pub mod read_back;
 pub mod reducer;
 pub mod stepper;
+pub mod store;
 pub mod substitute;
+pub mod translate;
 
 use other::calls::{self, Ran};
 use other::codec::Record;
+use other::generate::lending::output_room;
 use other::generate::lending::{
     closed, perhaps_damaged, sound_term, translatable_program, Lending,
 };
-use other::generate::programs::store;
+use other::generate::programs::store as generated_store;
 use other::random::Random;
 use other::run::Outcome;
 use other::substitute::{substitute as substitute_in, values_of};
@@ -41,6 +45,14 @@ fn put_head(bytes: &mut [u8], at: usize, length: usize, kind: usize) {
 fn put_leaf(bytes: &mut [u8], at: usize, kind: usize, value: u32) {
     put_head(bytes, at, 8, kind);
     put_word(bytes, at + 4, value);
+}
+
+/// The tuple of all variables.
+fn put_all(bytes: &mut [u8], at: usize, k: u32) {
+    put_head(bytes, at, 4 + 8 * k as usize, 36);
+    for x in 1..=k {
+        put_leaf(bytes, at + 8 * x as usize - 4, 33, x);
+    }
 }
 
 /// A record that is reduced or stepped in place, and the length it has by now.
@@ -125,10 +137,16 @@ pub fn agree() {
         } else {
             sound_term(random)
         };
-        let (budget, values) = (random.below(100) as u32, store(random, program.k));
-        agree_on_program(&perhaps_damaged(random, &program.encode()), &values, budget);
-        agree_on_term(&perhaps_damaged(random, &term.encode()), &values, budget);
-        let values = store(random, term.k);
+        let (budget, values) = (random.below(100) as u32, generated_store(random, program.k));
+        let lending = perhaps_damaged(random, &program.encode());
+        agree_on_program(&lending, &values, budget);
+        let out = translated(&lending, output_room(random, 8 * lending.used));
+        agree_on_term(&out, &values, budget);
+        agree_on_source(&out, output_room(random, lending.used));
+        let lending = perhaps_damaged(random, &term.encode());
+        agree_on_source(&lending, 16_384);
+        agree_on_term(&lending, &values, budget);
+        let values = generated_store(random, term.k);
         agree_on_term(&perhaps_damaged(random, &term.encode()), &values, budget);
         substitute_in(&mut term.term, &values_of(&values));
         agree_on_term(&perhaps_damaged(random, &term.encode()), &values, budget);
@@ -145,6 +163,25 @@ fn agree_on_program(Lending { buffer, used }: &Lending, values: &[u32], budget: 
     assert_eq!((ran, buf, store), (other, other_buf, other_store));
 }
 
+/// The translation by both, into a buffer of this length.
+fn translated(Lending { buffer, used }: &Lending, room: usize) -> Lending {
+    let (mut out, mut other_out) = (vec![0xA5; room], vec![0xA5; room]);
+    let written = translate::translate(buffer, *used, &mut out);
+    assert_eq!(written, calls::translate(buffer, *used, &mut other_out));
+    assert_eq!(out, other_out);
+    Lending {
+        buffer: out,
+        used: written.used as usize,
+    }
+}
+
+fn agree_on_source(Lending { buffer, used }: &Lending, room: usize) {
+    let (mut out, mut other_out) = (vec![0xA5; room], vec![0xA5; room]);
+    let written = read_back::read_back(buffer, *used, &mut out);
+    assert_eq!(written, calls::read_back(buffer, *used, &mut other_out));
+    assert_eq!(out, other_out);
+}
+
 fn agree_on_term(Lending { buffer, used }: &Lending, values: &[u32], budget: u32) {
     let checked = check::check_term(buffer, *used);
     assert_eq!(checked, calls::check_term(buffer, *used));
@@ -152,6 +189,13 @@ fn agree_on_term(Lending { buffer, used }: &Lending, values: &[u32], budget: u32
     let written = substitute::substitute(&mut buf, *used, values);
     assert_eq!(written, calls::substitute(&mut other_buf, *used, values));
     assert_eq!(buf, other_buf);
+    let (mut shown, mut other_shown) = (values.to_vec(), values.to_vec());
+    let number = store::result(buffer, *used, &mut shown);
+    assert_eq!(number, calls::result(buffer, *used, &mut other_shown));
+    assert_eq!(shown, other_shown);
+    let number = store::weigh(budget, 20, &mut shown);
+    assert_eq!(number, calls::weigh(budget, 20, &mut other_shown));
+    assert_eq!(shown, other_shown);
     let (mut buf, mut other_buf) = (buffer.clone(), buffer.clone());
     let ran = reducer::run_reducer(&mut buf, *used, budget);
     assert_eq!(ran, calls::run_reducer(&mut other_buf, *used, budget));

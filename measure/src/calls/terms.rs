@@ -32,26 +32,40 @@ pub fn print() {
 
 fn translate(on: &str, record: &[u8]) {
     let (buf, used) = (lend(record, 16_384), record.len());
-    let (mut out, mut other_out) = (vec![0; 16_384], vec![0; 16_384]);
+    let [mut out, mut other_out, mut plain_out] = [(); 3].map(|()| vec![0; 16_384]);
     row(
         "translate",
         on,
         &mut [
             &mut || _ = black_box(library::translate(black_box(&buf), used, &mut out)),
             &mut || _ = black_box(calls::translate(black_box(&buf), used, &mut other_out)),
+            &mut || {
+                _ = black_box(plain::translate::translate(
+                    black_box(&buf),
+                    used,
+                    &mut plain_out,
+                ))
+            },
         ],
     );
 }
 
 fn read_back(on: &str, record: &[u8]) {
     let (buf, used) = (lend(record, 16_384), record.len());
-    let (mut out, mut other_out) = (vec![0; 16_384], vec![0; 16_384]);
+    let [mut out, mut other_out, mut plain_out] = [(); 3].map(|()| vec![0; 16_384]);
     row(
         "read_back",
         on,
         &mut [
             &mut || _ = black_box(library::read_back(black_box(&buf), used, &mut out)),
             &mut || _ = black_box(calls::read_back(black_box(&buf), used, &mut other_out)),
+            &mut || {
+                _ = black_box(plain::read_back::read_back(
+                    black_box(&buf),
+                    used,
+                    &mut plain_out,
+                ))
+            },
         ],
     );
 }
@@ -83,13 +97,20 @@ fn substitute(on: &str, record: &[u8]) {
 
 fn result(on: &str, record: &[u8]) {
     let (buf, used) = (lend(record, 16_384), record.len());
-    let (mut store, mut other_store) = ([0; 16], [0; 16]);
+    let [mut store, mut other_store, mut plain_store] = [[0; 16]; 3];
     row(
         "result",
         on,
         &mut [
             &mut || _ = black_box(library::result(black_box(&buf), used, &mut store)),
             &mut || _ = black_box(calls::result(black_box(&buf), used, &mut other_store)),
+            &mut || {
+                _ = black_box(plain::store::result(
+                    black_box(&buf),
+                    used,
+                    &mut plain_store,
+                ))
+            },
         ],
     );
 }

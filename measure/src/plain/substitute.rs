@@ -39,30 +39,31 @@ pub fn fill(buf: &mut [u8], at: usize, values: Values) {
 }
 
 /// Whether no variable is free in the term at this place.
-pub fn closed(buf: &mut [u8], at: usize) -> bool {
-    let mut closed = true;
-    walk(at, [Some(0); 17], buf, |buf, at, values| {
+pub fn closed(buf: &[u8], at: usize) -> bool {
+    let (mut closed, mut buf) = (true, buf);
+    walk(at, [Some(0); 17], &mut buf, |buf, at, values| {
         closed &= half(buf, at + 2) == 32 || values[word(buf, at + 4) as usize].is_none();
     });
     closed
 }
 
-/// Every atom at which a variable could be free, with the values that are for it there.
-fn walk(
+/// Every atom at which a variable could be free, with the values that are for it there. The bytes are
+/// read here, and written, if at all, by what is done with an atom.
+fn walk<B: AsRef<[u8]> + ?Sized>(
     start: usize,
     mut values: Values,
-    buf: &mut [u8],
-    mut atom: impl FnMut(&mut [u8], usize, &Values),
+    buf: &mut B,
+    mut atom: impl FnMut(&mut B, usize, &Values),
 ) {
     let mut at = start;
     loop {
-        match half(buf, at + 2) {
+        match half(buf.as_ref(), at + 2) {
             37 => {
                 let simple = at + 8;
-                let wrapped = matches!(half(buf, simple + 2), 34 | 35);
+                let wrapped = matches!(half(buf.as_ref(), simple + 2), 34 | 35);
                 atom(buf, simple + if wrapped { 4 } else { 0 }, &values);
-                values[word(buf, at + 4) as usize] = None;
-                at = simple + half(buf, simple);
+                values[word(buf.as_ref(), at + 4) as usize] = None;
+                at = simple + half(buf.as_ref(), simple);
             }
             38 => at += 4,
             39 => {
@@ -74,13 +75,13 @@ fn walk(
     }
 }
 
-fn atoms(
+fn atoms<B: AsRef<[u8]> + ?Sized>(
     tuple: usize,
     values: &Values,
-    buf: &mut [u8],
-    mut atom: impl FnMut(&mut [u8], usize, &Values),
+    buf: &mut B,
+    mut atom: impl FnMut(&mut B, usize, &Values),
 ) {
-    for at in (tuple + 4..tuple + half(buf, tuple)).step_by(8) {
+    for at in (tuple + 4..tuple + half(buf.as_ref(), tuple)).step_by(8) {
         atom(buf, at, values);
     }
 }

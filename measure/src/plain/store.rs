@@ -1,0 +1,33 @@
+//! The two calls that write a store: result and weigh.
+
+use super::substitute::closed;
+use super::{half, word};
+
+pub fn result(buf: &[u8], used: usize, store: &mut [u32]) -> u32 {
+    let checked = super::check::check_term(buf, used);
+    if checked.number != 0 {
+        return checked.number;
+    }
+    if store.len() != checked.k as usize {
+        return 6;
+    }
+    if !closed(buf, 8) {
+        return 7;
+    }
+    if half(buf, 10) != 36 {
+        return 8;
+    }
+    for (i, value) in store.iter_mut().enumerate() {
+        *value = word(buf, 16 + 8 * i);
+    }
+    0
+}
+
+pub fn weigh(gross: u32, tare: u32, store: &mut [u32]) -> u32 {
+    if !(1..=16).contains(&store.len()) {
+        return 6;
+    }
+    store.fill(0);
+    store[0] = gross.saturating_sub(tare) / 20;
+    0
+}
