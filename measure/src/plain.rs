@@ -140,9 +140,9 @@ pub fn agree() {
         let (budget, values) = (random.below(100) as u32, generated_store(random, program.k));
         let lending = perhaps_damaged(random, &program.encode());
         agree_on_program(&lending, &values, budget);
-        let out = translated(&lending, output_room(random, 8 * lending.used));
+        let out = translated(&lending, output_room(random, 3 * lending.buffer.len()));
         agree_on_term(&out, &values, budget);
-        agree_on_source(&out, output_room(random, lending.used));
+        agree_on_source(&out, output_room(random, lending.buffer.len()));
         let lending = perhaps_damaged(random, &term.encode());
         agree_on_source(&lending, 16_384);
         agree_on_term(&lending, &values, budget);
