@@ -5,7 +5,7 @@ use Rattle.lockstep.proofs.main.Tie as tie
 use Rattle.lockstep.proofs.main.Reads as reads
 use Rattle.lockstep.proofs.main.Lts as lts
 use Rattle.lockstep.proofs.answer.Reads as answer-reads
-use mathlib.Core.Path.{refl}
+use native.Mathlib.Omega.{arith}
 use Rattle.report.specs.Line.{programBuffer}
 
 -- src/main.rt:65:12
@@ -19,7 +19,7 @@ slice-aggregate-answer-2 c = search needs
 -- src/main.rt:65:5
 answer-requires : tie.Need-answer-requires
 unfolding programBuffer
-answer-requires c κs = (refl, refl)
+answer-requires c κs = (omega arith, omega arith)
 
 -- src/main.rt:62:1
 returns : tie.Need-returns
