@@ -31,6 +31,17 @@ fn read_record(a: &mut [u8]) -> usize
     2 + io::read_full(STDIN_FILENO, &mut a[2..said])
 }
 
+// Whether the input, or the reading of it, ended before the record did.
+fn is_short(a: &[u8], record: usize) -> bool
+    requires { ⌜ length (now a) ≡ programBuffer ⌝ }
+{
+    if record < 2 {
+        return true;
+    }
+    let said = get_u16(a, 0);
+    record < said && said <= 16384
+}
+
 // Of the rest of the input only the number of bytes matters, and of that only that it is too large.
 fn count_rest(space: &mut [u8], before: usize) -> usize
     requires { ⌜ length (now space) ≡ programBuffer ⌝ }
@@ -46,17 +57,27 @@ fn count_rest(space: &mut [u8], before: usize) -> usize
     total
 }
 
-// Where the record is not whole the input is at its end, or its length was too large: the bytes that `behind` has then are
-// only counted.
+fn print_line(a: &mut [u8], b: &mut [u8], behind: &[u8], total: usize)
+    requires { ⌜ (length (now a) ≡ programBuffer) × (length (now b) ≡ programBuffer) ⌝ }
+{
+    let end = line(a, b, behind, total);
+    io::write_all(STDOUT_FILENO, &b[..end]);
+}
+
+// Nothing is read on where a read has failed in the record: what came then would not stand behind it. Where the length was
+// too large, the bytes that `behind` has are only counted.
 fn answer(a: &mut [u8], b: &mut [u8])
     requires { ⌜ (length (now a) ≡ programBuffer) × (length (now b) ≡ programBuffer) ⌝ }
 {
     let record = read_record(a);
+    if is_short(a, record) {
+        print_line(a, b, b"", record);
+        return;
+    }
     let mut behind = [0u8; 65];
     let kept = io::read_full(STDIN_FILENO, &mut behind);
     let total = count_rest(b, record + kept);
-    let end = line(a, b, &behind[..kept], total);
-    io::write_all(STDOUT_FILENO, &b[..end]);
+    print_line(a, b, &behind[..kept], total);
 }
 
 fn main() {
