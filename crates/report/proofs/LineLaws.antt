@@ -106,7 +106,7 @@ module _ {input a b behind : List ℕ} {total : ℕ} (h : Reads input a b behind
   pub said-is : (s : ℕ) → s ≡ val (part a 0 2) → s ≡ saidLength input
   said-is s e = said-read input a total (h .lead) s (omega (arith, h .lead .counted, p .whole .two)) e
 
-  pub said-fits : saidLength input ≤ length a
+  said-fits : saidLength input ≤ length a
   unfolding programBuffer
   said-fits = omega (arith, h .lead .size, p .whole .fits)
 

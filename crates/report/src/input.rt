@@ -3,10 +3,12 @@ ghost use mathlib.Core.Path.{_≡_};
 ghost use mathlib.Core.List.{List, []};
 ghost use Prim.Native.Nat.{ℕ, _*_, _≤_};
 ghost use lib.ListN.{length};
+ghost use Rattle.buffer.specs.LittleEndian.{val};
+ghost use Rattle.buffer.specs.Slice.{part};
 ghost use Rattle.checker.specs.Answer.{asChecked};
 ghost use Rattle.record.specs.Answers.{checkedBy};
 ghost use Rattle.record.specs.Rows.{firstRow};
-ghost use Rattle.report.specs.Line.{inputRows, kOfInput, valuesIn};
+ghost use Rattle.report.specs.Line.{inputRows, kOfInput, programBuffer, valuesIn};
 ghost use Rattle.report.specs.Reads.{RecordRead};
 use buffer::get_u16;
 use buffer::get_u32;
@@ -19,10 +21,10 @@ fn refused(number: u32) -> Checked
     Checked { number, k: 0 }
 }
 
-// Every refusal but the last, which takes the translation to see.
+// Every refusal but the last, which takes the translation to see. Whatever was read, what is accepted fits the buffers.
 pub fn check_input(a: &[u8], total: usize) -> Checked
-    requires { ⌜ ((input : List ℕ) × RecordRead input (now a) total) ⌝ }
-    ensures { λ r. ⌜ ((input : List ℕ) → RecordRead input (now (a .entry)) total → asChecked r ≡ checkedBy (firstRow (inputRows input [])) (kOfInput input)) ⌝ }
+    requires { ⌜ length (now a) ≡ programBuffer ⌝ }
+    ensures { λ r. ⌜ ((input : List ℕ) → RecordRead input (now (a .entry)) total → asChecked r ≡ checkedBy (firstRow (inputRows input [])) (kOfInput input)) × (r .number ≡ 0 → (val (part (now (a .entry)) 0 2) ≤ 16384) × (r .k ≤ 16)) ⌝ }
 {
     if total < 2 {
         return refused(2);

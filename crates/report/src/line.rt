@@ -43,12 +43,16 @@ fn run_both(
 
 // The first r bytes of the reducer's buffer are the line.
 pub fn line(a: &mut [u8], b: &mut [u8], behind: &[u8], total: usize) -> usize
-    requires { ⌜ ((input : List ℕ) × Reads input (now a) (now b) (now behind) total) ⌝ }
+    requires { ⌜ (length (now a) ≡ programBuffer) × (length (now b) ≡ programBuffer) ⌝ }
     ensures { λ r. ⌜ ((input : List ℕ) → Reads input (now (a .entry)) (now (b .entry)) (now (behind .entry)) total → take r (now (b .exit)) ≡ spec.line input) × (r ≤ 256) ⌝ }
 {
     let checked = check_input(a, total);
     if checked.number != 0 {
         return put_refused(b, checked.number);
+    }
+    // Of an input that was read as `Reads` says, row 6 is tested already and this never holds.
+    if behind.len() < 4 * checked.k as usize {
+        return put_refused(b, 6);
     }
     let said = get_u16(a, 0);
     let term = translate(&a[..said], said, b);

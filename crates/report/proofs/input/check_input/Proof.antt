@@ -12,92 +12,98 @@ use mathlib.Core.Path.{_∙_, sym}
 use lib.ListN.{length, take}
 use lib.Seq.{length-take-le}
 use Rattle.checker.specs.Answer.{asChecked}
-use Rattle.report.proofs.InputRowsLaws.{check-refuses, input-accepted, record-read, rest-refuses, said-long, said-more, said-read, under-two, whole-read}
+use Rattle.report.proofs.InputRowsLaws.{check-refuses, input-accepted, record-read, rest-refuses, said-long, said-more, said-read, under-two, whole-read, checked-k, not-accepted}
 use Rattle.report.specs.Line.{programBuffer}
 
--- src/input.rt:28:9
+-- src/input.rt:30:9
 refused-requires : tie.Need-refused-requires
 refused-requires c κs = search needs
 
--- src/input.rt:28:9
+-- src/input.rt:30:9
 returns : tie.Need-returns
 returns c =
-    λ input h. under-two input (c .before .before .before .args .a .now) (c .before .before .before .args .total) h (asChecked (c .refused .result)) (c .refused .ensures) (c .before .if1 .taken)
-
--- src/input.rt:30:9
-get-u16-requires : tie.Need-get-u16-requires
-unfolding programBuffer
-get-u16-requires c κs = omega (arith, c .before .before .pre .1 .size)
+    ((λ input h. under-two input (c .before .before .before .args .a .now) (c .before .before .before .args .total) h (asChecked (c .refused .result)) (c .refused .ensures) (c .before .if1 .taken)), not-accepted 2 (asChecked (c .refused .result)) (c .refused .ensures) (λ z. omega arith))
 
 -- src/input.rt:32:9
+get-u16-requires : tie.Need-get-u16-requires
+unfolding programBuffer
+get-u16-requires c κs = omega (arith, c .before .before .pre)
+
+-- src/input.rt:34:9
 refused-requires-2 : tie.Need-refused-requires-2
 refused-requires-2 c κs = search needs
 
--- src/input.rt:32:9
+-- src/input.rt:34:9
 returns-2 : tie.Need-returns-2
 returns-2 c =
-    λ input h. said-long input (c .before .before .before .before .before .args .a .now) (c .before .before .before .before .before .args .total) h (asChecked (c .refused2 .result)) (c .before .before .get-u16 .result) (c .refused2 .ensures) (c .before .before .before .if1 .left) (c .before .before .get-u16 .ensures .0) (c .before .if2 .taken)
+    ((λ input h. said-long input (c .before .before .before .before .before .args .a .now) (c .before .before .before .before .before .args .total) h (asChecked (c .refused2 .result)) (c .before .before .get-u16 .result) (c .refused2 .ensures) (c .before .before .before .if1 .left) (c .before .before .get-u16 .ensures .0) (c .before .if2 .taken)), not-accepted 1 (asChecked (c .refused2 .result)) (c .refused2 .ensures) (λ z. omega arith))
 
--- src/input.rt:35:9
+-- src/input.rt:37:9
 refused-requires-3 : tie.Need-refused-requires-3
 refused-requires-3 c κs = search needs
 
--- src/input.rt:35:9
+-- src/input.rt:37:9
 returns-3 : tie.Need-returns-3
 returns-3 c =
-    λ input h. said-more input (c .before .before .before .before .before .before .args .a .now) (c .before .before .before .before .before .before .args .total) h (asChecked (c .refused3 .result)) (c .before .before .before .get-u16 .result) (c .refused3 .ensures) (c .before .before .before .before .if1 .left) (c .before .before .before .get-u16 .ensures .0) (c .before .before .if2 .left) (c .before .if3 .taken)
+    ((λ input h. said-more input (c .before .before .before .before .before .before .args .a .now) (c .before .before .before .before .before .before .args .total) h (asChecked (c .refused3 .result)) (c .before .before .before .get-u16 .result) (c .refused3 .ensures) (c .before .before .before .before .if1 .left) (c .before .before .before .get-u16 .ensures .0) (c .before .before .if2 .left) (c .before .if3 .taken)), not-accepted 2 (asChecked (c .refused3 .result)) (c .refused3 .ensures) (λ z. omega arith))
 
--- src/input.rt:37:33
+-- src/input.rt:39:33
 slice-aggregate-check-program : tie.Need-slice-aggregate-check-program
 unfolding programBuffer
 slice-aggregate-check-program c =
-    sym (length-take-le (c .before .before .before .get-u16 .result) (c .before .before .before .before .before .before .args .a .now) (omega (arith, c .before .before .before .before .before .before .pre .1 .size)))
+    sym (length-take-le (c .before .before .before .get-u16 .result) (c .before .before .before .before .before .before .args .a .now) (omega (arith, c .before .before .before .before .before .before .pre)))
 
--- src/input.rt:37:9
+-- src/input.rt:39:9
 check-program-requires : tie.Need-check-program-requires
 check-program-requires c κs = search needs
 
--- src/input.rt:39:9
+-- src/input.rt:41:9
 returns-4 : tie.Need-returns-4
-returns-4 c =
-    λ input h.
-    let a = c .before .before .before .before .before .before .before .before .before .args .a .now in
-    let s = c .before .before .before .before .before .before .get-u16 .result in
-    let r = record-read input a (c .before .before .before .before .before .before .before .before .before .args .total) h s (c .before .before .before .before .before .before .before .if1 .left) (c .before .before .before .before .before .before .get-u16 .ensures .0) (c .before .before .before .before .before .if2 .left) (c .before .before .before .before .if3 .left) in
-    let w = whole-read input a (c .before .before .before .before .before .before .before .before .before .args .total) h s (c .before .before .before .before .before .before .before .if1 .left) (c .before .before .before .before .before .before .get-u16 .ensures .0) (c .before .before .before .before .before .if2 .left) (c .before .before .before .before .if3 .left) in
-    check-refuses input a (c .before .before .before .before .before .before .before .before .before .args .total) h w (asChecked (c .before .before .check-program .result)) (c .before .before .check-program .ensures ∙ r) (c .if4 .taken)
+returns-4 c = (
+  (λ input h.
+      let a = c .before .before .before .before .before .before .before .before .before .args .a .now in
+      let s = c .before .before .before .before .before .before .get-u16 .result in
+      let r = record-read input a (c .before .before .before .before .before .before .before .before .before .args .total) h s (c .before .before .before .before .before .before .before .if1 .left) (c .before .before .before .before .before .before .get-u16 .ensures .0) (c .before .before .before .before .before .if2 .left) (c .before .before .before .before .if3 .left) in
+      let w = whole-read input a (c .before .before .before .before .before .before .before .before .before .args .total) h s (c .before .before .before .before .before .before .before .if1 .left) (c .before .before .before .before .before .before .get-u16 .ensures .0) (c .before .before .before .before .before .if2 .left) (c .before .before .before .before .if3 .left) in
+      check-refuses input a (c .before .before .before .before .before .before .before .before .before .args .total) h w (asChecked (c .before .before .check-program .result)) (c .before .before .check-program .ensures ∙ r) (c .if4 .taken)),
+  λ z. absurd (c .if4 .taken z),
+)
 
--- src/input.rt:41:28
+-- src/input.rt:43:28
 cast-if5 : tie.Need-cast-if5
 cast-if5 c = search needs
 
--- src/input.rt:41:24
+-- src/input.rt:43:24
 mul-if5 : tie.Need-mul-if5
 mul-if5 c = search needs
 
--- src/input.rt:42:9
+-- src/input.rt:44:9
 refused-requires-4 : tie.Need-refused-requires-4
 refused-requires-4 c κs = search needs
 
--- src/input.rt:42:9
+-- src/input.rt:44:9
 returns-5 : tie.Need-returns-5
-returns-5 c =
-    λ input h.
-    let a = c .before .before .before .before .before .before .before .before .before .before .before .before .args .a .now in
-    let s = c .before .before .before .before .before .before .before .before .before .get-u16 .result in
-    let r = record-read input a (c .before .before .before .before .before .before .before .before .before .before .before .before .args .total) h s (c .before .before .before .before .before .before .before .before .before .before .if1 .left) (c .before .before .before .before .before .before .before .before .before .get-u16 .ensures .0) (c .before .before .before .before .before .before .before .before .if2 .left) (c .before .before .before .before .before .before .before .if3 .left) in
-    let w = whole-read input a (c .before .before .before .before .before .before .before .before .before .before .before .before .args .total) h s (c .before .before .before .before .before .before .before .before .before .before .if1 .left) (c .before .before .before .before .before .before .before .before .before .get-u16 .ensures .0) (c .before .before .before .before .before .before .before .before .if2 .left) (c .before .before .before .before .before .before .before .if3 .left) in
-    rest-refuses input a (c .before .before .before .before .before .before .before .before .before .before .before .before .args .total) h w (asChecked (c .before .before .before .before .before .check-program .result)) (c .before .before .before .before .before .check-program .ensures ∙ r) (c .before .before .before .if4 .left) (asChecked (c .refused4 .result)) s (c .refused4 .ensures) (said-read input a (c .before .before .before .before .before .before .before .before .before .before .before .before .args .total) h s (c .before .before .before .before .before .before .before .before .before .before .if1 .left) (c .before .before .before .before .before .before .before .before .before .get-u16 .ensures .0)) (c .before .if5 .taken)
+returns-5 c = (
+  (λ input h.
+      let a = c .before .before .before .before .before .before .before .before .before .before .before .before .args .a .now in
+      let s = c .before .before .before .before .before .before .before .before .before .get-u16 .result in
+      let r = record-read input a (c .before .before .before .before .before .before .before .before .before .before .before .before .args .total) h s (c .before .before .before .before .before .before .before .before .before .before .if1 .left) (c .before .before .before .before .before .before .before .before .before .get-u16 .ensures .0) (c .before .before .before .before .before .before .before .before .if2 .left) (c .before .before .before .before .before .before .before .if3 .left) in
+      let w = whole-read input a (c .before .before .before .before .before .before .before .before .before .before .before .before .args .total) h s (c .before .before .before .before .before .before .before .before .before .before .if1 .left) (c .before .before .before .before .before .before .before .before .before .get-u16 .ensures .0) (c .before .before .before .before .before .before .before .before .if2 .left) (c .before .before .before .before .before .before .before .if3 .left) in
+      rest-refuses input a (c .before .before .before .before .before .before .before .before .before .before .before .before .args .total) h w (asChecked (c .before .before .before .before .before .check-program .result)) (c .before .before .before .before .before .check-program .ensures ∙ r) (c .before .before .before .if4 .left) (asChecked (c .refused4 .result)) s (c .refused4 .ensures) (said-read input a (c .before .before .before .before .before .before .before .before .before .before .before .before .args .total) h s (c .before .before .before .before .before .before .before .before .before .before .if1 .left) (c .before .before .before .before .before .before .before .before .before .get-u16 .ensures .0)) (c .before .if5 .taken)),
+  not-accepted 6 (asChecked (c .refused4 .result)) (c .refused4 .ensures) (λ z. omega arith),
+)
 
--- src/input.rt:23:1
+-- src/input.rt:25:1
 returns-6 : tie.Need-returns-6
-returns-6 c =
-    λ input h.
-    let a = c .before .before .before .before .before .before .before .before .before .before .before .args .a .now in
-    let s = c .before .before .before .before .before .before .before .before .get-u16 .result in
-    let r = record-read input a (c .before .before .before .before .before .before .before .before .before .before .before .args .total) h s (c .before .before .before .before .before .before .before .before .before .if1 .left) (c .before .before .before .before .before .before .before .before .get-u16 .ensures .0) (c .before .before .before .before .before .before .before .if2 .left) (c .before .before .before .before .before .before .if3 .left) in
-    let w = whole-read input a (c .before .before .before .before .before .before .before .before .before .before .before .args .total) h s (c .before .before .before .before .before .before .before .before .before .if1 .left) (c .before .before .before .before .before .before .before .before .get-u16 .ensures .0) (c .before .before .before .before .before .before .before .if2 .left) (c .before .before .before .before .before .before .if3 .left) in
-    input-accepted input a (c .before .before .before .before .before .before .before .before .before .before .before .args .total) h w (asChecked (c .before .before .before .before .check-program .result)) (c .before .before .before .before .check-program .ensures ∙ r) (c .before .before .if4 .left) s (said-read input a (c .before .before .before .before .before .before .before .before .before .before .before .args .total) h s (c .before .before .before .before .before .before .before .before .before .if1 .left) (c .before .before .before .before .before .before .before .before .get-u16 .ensures .0)) (c .if5 .left)
+returns-6 c = (
+  (λ input h.
+      let a = c .before .before .before .before .before .before .before .before .before .before .before .args .a .now in
+      let s = c .before .before .before .before .before .before .before .before .get-u16 .result in
+      let r = record-read input a (c .before .before .before .before .before .before .before .before .before .before .before .args .total) h s (c .before .before .before .before .before .before .before .before .before .if1 .left) (c .before .before .before .before .before .before .before .before .get-u16 .ensures .0) (c .before .before .before .before .before .before .before .if2 .left) (c .before .before .before .before .before .before .if3 .left) in
+      let w = whole-read input a (c .before .before .before .before .before .before .before .before .before .before .before .args .total) h s (c .before .before .before .before .before .before .before .before .before .if1 .left) (c .before .before .before .before .before .before .before .before .get-u16 .ensures .0) (c .before .before .before .before .before .before .before .if2 .left) (c .before .before .before .before .before .before .if3 .left) in
+      input-accepted input a (c .before .before .before .before .before .before .before .before .before .before .before .args .total) h w (asChecked (c .before .before .before .before .check-program .result)) (c .before .before .before .before .check-program .ensures ∙ r) (c .before .before .if4 .left) s (said-read input a (c .before .before .before .before .before .before .before .before .before .before .before .args .total) h s (c .before .before .before .before .before .before .before .before .before .if1 .left) (c .before .before .before .before .before .before .before .before .get-u16 .ensures .0)) (c .if5 .left)),
+  λ z. (omega (arith, c .before .before .before .before .before .before .before .before .get-u16 .ensures .0, c .before .before .before .before .before .before .before .if2 .left), checked-k (take (c .before .before .before .before .before .before .before .before .get-u16 .result) (c .before .before .before .before .before .before .before .before .before .before .before .args .a .now)) (c .before .before .before .before .before .before .before .before .get-u16 .result) (asChecked (c .before .before .before .before .check-program .result)) (c .before .before .before .before .check-program .ensures) z),
+)
 
 pub check-input-spec : {M : Type 1} → statement M
 check-input-spec =

@@ -1,4 +1,4 @@
--- One law for each way out; an input that was read is accepted by its checks alone.
+-- One law for each way out. That the buffers take what is accepted needs no input, only the check's answer.
 use borrow.Author.Needs.{needs}
 use Rattle.report.proofs.line.line.Statement.{statement}
 use Rattle.report.proofs.line.line.Tie as tie
@@ -16,137 +16,167 @@ use Prim.Native.Nat.{ℕ}
 use lib.ListN.{length, take}
 use lib.Seq.{length-take-le}
 use Rattle.checker.specs.Answer.{asChecked}
-use Rattle.report.proofs.LineLaws.{input-passes, input-refused, noValues, runs-line, said-fits, said-is, translate-refuses, values-made, values-there}
+use Rattle.report.proofs.LineLaws.{input-passes, input-refused, noValues, runs-line, said-is, translate-refuses, values-made, values-there}
 use Rattle.report.specs.Line.{programBudget, programBuffer, reducerFrom, runsLine, valuesIn}
 use Rattle.term.specs.Answer.{asWrote}
 use Rattle.stepper.specs.RunStepper.{runStepper}
 use Rattle.term.specs.Calls.{substituteCall}
 
--- src/line.rt:50:9
+-- src/line.rt:49:9
 check-input-requires : tie.Need-check-input-requires
-check-input-requires c κs = search needs
+check-input-requires c κs = c .before .before .before .before .pre .0
 
--- src/line.rt:52:9
+-- src/line.rt:51:9
 put-refused-requires : tie.Need-put-refused-requires
 unfolding programBuffer
-put-refused-requires c κs =
-    omega (arith, c .before .before .before .before .before .before .before .before .pre .1 .room, c .before .before .before .before .before .before .before .before .pre .1 .lead .size)
+put-refused-requires c κs = omega (arith, c .before .before .before .before .before .before .before .before .pre .1)
 
--- src/line.rt:52:9
+-- src/line.rt:51:9
 same-length : tie.Need-same-length
 same-length c = search needs
 
--- src/line.rt:52:9
+-- src/line.rt:51:9
 same-length-2 : tie.Need-same-length-2
 same-length-2 c = search needs
 
--- src/line.rt:52:9
+-- src/line.rt:51:9
 returns : tie.Need-returns
 returns c =
-    ((λ input h. c .before .before .put-refused .ensures .0 ∙ sym (input-refused input (asChecked (c .before .before .before .before .before .before .check-input .result)) (c .before .before .before .before .before .before .check-input .ensures input (h .lead)) (c .before .before .before .before .if1 .taken))), omega (arith, c .before .before .put-refused .ensures .1))
+    ((λ input h. c .before .before .put-refused .ensures .0 ∙ sym (input-refused input (asChecked (c .before .before .before .before .before .before .check-input .result)) (c .before .before .before .before .before .before .check-input .ensures .0 input (h .lead)) (c .before .before .before .before .if1 .taken))), omega (arith, c .before .before .put-refused .ensures .1))
 
--- src/line.rt:54:9
-get-u16-requires : tie.Need-get-u16-requires
-unfolding programBuffer
-get-u16-requires c κs =
-    omega (arith, c .before .before .before .before .before .before .before .before .pre .1 .room, c .before .before .before .before .before .before .before .before .pre .1 .lead .size)
+-- src/line.rt:54:27
+cast-if2 : tie.Need-cast-if2
+cast-if2 c = search needs
 
--- src/line.rt:55:26
-slice-reshare-prefix-translate : tie.Need-slice-reshare-prefix-translate
-slice-reshare-prefix-translate c =
-    let p = input-passes (c .before .before .before .before .before .before .before .before .before .pre .0) (asChecked (c .before .before .before .before .check-input .result)) (c .before .before .before .before .check-input .ensures (c .before .before .before .before .before .before .before .before .before .pre .0) (c .before .before .before .before .before .before .before .before .before .pre .1 .lead)) (c .before .before .if1 .left) in
-    omega (arith, said-is (c .before .before .before .before .before .before .before .before .before .pre .1) p (c .get-u16 .result) (c .get-u16 .ensures .0), said-fits (c .before .before .before .before .before .before .before .before .before .pre .1) p)
-
--- src/line.rt:55:26
-slice-aggregate-translate : tie.Need-slice-aggregate-translate
-slice-aggregate-translate c =
-    let p = input-passes (c .before .before .before .before .before .before .before .before .before .before .pre .0) (asChecked (c .before .before .before .before .before .check-input .result)) (c .before .before .before .before .before .check-input .ensures (c .before .before .before .before .before .before .before .before .before .before .pre .0) (c .before .before .before .before .before .before .before .before .before .before .pre .1 .lead)) (c .before .before .before .if1 .left) in
-    sym (length-take-le (c .before .get-u16 .result) (c .before .before .before .before .before .before .before .before .before .before .args .a .now) (omega (arith, said-is (c .before .before .before .before .before .before .before .before .before .before .pre .1) p (c .before .get-u16 .result) (c .before .get-u16 .ensures .0), said-fits (c .before .before .before .before .before .before .before .before .before .before .pre .1) p)))
+-- src/line.rt:54:23
+mul-if2 : tie.Need-mul-if2
+mul-if2 c = search needs
 
 -- src/line.rt:55:9
-translate-requires : tie.Need-translate-requires
-translate-requires c κs = search needs
-
--- src/line.rt:57:9
 put-refused-requires-2 : tie.Need-put-refused-requires-2
 unfolding programBuffer
 put-refused-requires-2 c κs =
-    omega (arith, c .before .before .before .before .before .before .before .before .before .before .before .before .before .before .before .before .before .pre .1 .room, c .before .before .before .before .before .translate .kept .1 .1 .0)
+    omega (arith, c .before .before .before .before .before .before .before .before .before .before .pre .1)
 
--- src/line.rt:57:9
+-- src/line.rt:55:9
 same-length-3 : tie.Need-same-length-3
 same-length-3 c = search needs
 
--- src/line.rt:57:9
+-- src/line.rt:55:9
 same-length-4 : tie.Need-same-length-4
 same-length-4 c = search needs
 
--- src/line.rt:57:9
+-- src/line.rt:55:9
 returns-2 : tie.Need-returns-2
 returns-2 c = (
   (λ input h.
-      let p = input-passes input (asChecked (c .before .before .before .before .before .before .before .before .before .before .before .before .before .before .before .check-input .result)) (c .before .before .before .before .before .before .before .before .before .before .before .before .before .before .before .check-input .ensures input (h .lead)) (c .before .before .before .before .before .before .before .before .before .before .before .before .before .if1 .left) in
-      c .before .before .put-refused2 .ensures .0 ∙ sym (translate-refuses h p (c .before .before .before .before .before .before .before .before .before .before .before .get-u16 .result) (said-is h p (c .before .before .before .before .before .before .before .before .before .before .before .get-u16 .result) (c .before .before .before .before .before .before .before .before .before .before .before .get-u16 .ensures .0)) (asWrote (c .before .before .before .before .before .before .before .before .translate .result) (c .before .before .before .before .before .before .before .before .translate .last .1 .1 .0)) (c .before .before .before .before .before .before .before .before .translate .ensures) (c .before .before .before .before .if2 .taken))),
+      let p = input-passes input (asChecked (c .before .before .before .before .before .before .before .before .check-input .result)) (c .before .before .before .before .before .before .before .before .check-input .ensures .0 input (h .lead)) (c .before .before .before .before .before .before .if1 .left) in
+      absurd (omega (arith, values-there h p, c .before .before .before .before .if2 .taken))),
   omega (arith, c .before .before .put-refused2 .ensures .1),
 )
 
--- src/line.rt:59:19
-sub-zero : tie.Need-sub-zero
-sub-zero c =
-    let p = input-passes (c .before .before .before .before .before .before .before .before .before .before .before .before .before .before .before .before .before .pre .0) (asChecked (c .before .before .before .before .before .before .before .before .before .before .before .before .check-input .result)) (c .before .before .before .before .before .before .before .before .before .before .before .before .check-input .ensures (c .before .before .before .before .before .before .before .before .before .before .before .before .before .before .before .before .before .pre .0) (c .before .before .before .before .before .before .before .before .before .before .before .before .before .before .before .before .before .pre .1 .lead)) (c .before .before .before .before .before .before .before .before .before .before .if1 .left) in
-    omega (arith, said-is (c .before .before .before .before .before .before .before .before .before .before .before .before .before .before .before .before .before .pre .1) p (c .before .before .before .before .before .before .before .before .get-u16 .result) (c .before .before .before .before .before .before .before .before .get-u16 .ensures .0), said-fits (c .before .before .before .before .before .before .before .before .before .before .before .before .before .before .before .before .before .pre .1) p)
+-- src/line.rt:57:9
+get-u16-requires : tie.Need-get-u16-requires
+unfolding programBuffer
+get-u16-requires c κs =
+    omega (arith, c .before .before .before .before .before .before .before .before .before .before .pre .0)
 
--- src/line.rt:59:5
-zero-requires : tie.Need-zero-requires
-zero-requires c κs =
-    let p = input-passes (c .before .before .before .before .before .before .before .before .before .before .before .before .before .before .before .before .before .pre .0) (asChecked (c .before .before .before .before .before .before .before .before .before .before .before .before .check-input .result)) (c .before .before .before .before .before .before .before .before .before .before .before .before .check-input .ensures (c .before .before .before .before .before .before .before .before .before .before .before .before .before .before .before .before .before .pre .0) (c .before .before .before .before .before .before .before .before .before .before .before .before .before .before .before .before .before .pre .1 .lead)) (c .before .before .before .before .before .before .before .before .before .before .if1 .left) in
-    omega (arith, said-is (c .before .before .before .before .before .before .before .before .before .before .before .before .before .before .before .before .before .pre .1) p (c .before .before .before .before .before .before .before .before .get-u16 .result) (c .before .before .before .before .before .before .before .before .get-u16 .ensures .0), said-fits (c .before .before .before .before .before .before .before .before .before .before .before .before .before .before .before .before .before .pre .1) p)
+-- src/line.rt:58:26
+slice-reshare-prefix-translate : tie.Need-slice-reshare-prefix-translate
+unfolding programBuffer
+slice-reshare-prefix-translate c =
+    omega (arith, c .before .before .before .before .before .before .before .before .before .before .before .pre .0, c .get-u16 .ensures .0, c .before .before .before .before .before .before .check-input .ensures .1 (c .before .before .before .before .if1 .left) .0)
 
--- src/line.rt:65:9
-cast-run-both : tie.Need-cast-run-both
-cast-run-both c = search needs
+-- src/line.rt:58:26
+slice-aggregate-translate : tie.Need-slice-aggregate-translate
+unfolding programBuffer
+slice-aggregate-translate c =
+    sym (length-take-le (c .before .get-u16 .result) (c .before .before .before .before .before .before .before .before .before .before .before .before .args .a .now) (omega (arith, c .before .before .before .before .before .before .before .before .before .before .before .before .pre .0, c .before .get-u16 .ensures .0, c .before .before .before .before .before .before .before .check-input .ensures .1 (c .before .before .before .before .before .if1 .left) .0)))
 
--- src/line.rt:67:22
-cast-store : tie.Need-cast-store
-cast-store c = search needs
+-- src/line.rt:58:9
+translate-requires : tie.Need-translate-requires
+translate-requires c κs = search needs
 
--- src/line.rt:67:9
-array-borrow-prefix-store : tie.Need-array-borrow-prefix-store
-array-borrow-prefix-store c =
-    input-passes (c .before .before .before .before .before .before .before .before .before .before .before .before .before .before .before .before .before .before .before .before .before .before .before .before .pre .0) (asChecked (c .before .before .before .before .before .before .before .before .before .before .before .before .before .before .before .before .before .before .before .check-input .result)) (c .before .before .before .before .before .before .before .before .before .before .before .before .before .before .before .before .before .before .before .check-input .ensures (c .before .before .before .before .before .before .before .before .before .before .before .before .before .before .before .before .before .before .before .before .before .before .before .before .pre .0) (c .before .before .before .before .before .before .before .before .before .before .before .before .before .before .before .before .before .before .before .before .before .before .before .before .pre .1 .lead)) (c .before .before .before .before .before .before .before .before .before .before .before .before .before .before .before .before .before .if1 .left) .low
+-- src/line.rt:60:9
+put-refused-requires-3 : tie.Need-put-refused-requires-3
+unfolding programBuffer
+put-refused-requires-3 c κs =
+    omega (arith, c .before .before .before .before .before .before .before .before .before .before .before .before .before .before .before .before .before .before .before .pre .1, c .before .before .before .before .before .translate .kept .1 .1 .0)
 
--- src/line.rt:67:9
-slice-aggregate-run-both : tie.Need-slice-aggregate-run-both
-slice-aggregate-run-both c =
-    sym (values-made (c .before .before .before .before .before .before .before .before .before .before .before .before .before .before .before .before .before .before .before .before .check-input .result .k) (input-passes (c .before .before .before .before .before .before .before .before .before .before .before .before .before .before .before .before .before .before .before .before .before .before .before .before .before .pre .0) (asChecked (c .before .before .before .before .before .before .before .before .before .before .before .before .before .before .before .before .before .before .before .before .check-input .result)) (c .before .before .before .before .before .before .before .before .before .before .before .before .before .before .before .before .before .before .before .before .check-input .ensures (c .before .before .before .before .before .before .before .before .before .before .before .before .before .before .before .before .before .before .before .before .before .before .before .before .before .pre .0) (c .before .before .before .before .before .before .before .before .before .before .before .before .before .before .before .before .before .before .before .before .before .before .before .before .before .pre .1 .lead)) (c .before .before .before .before .before .before .before .before .before .before .before .before .before .before .before .before .before .before .if1 .left) .low))
-
--- src/line.rt:61:5
-run-both-requires : tie.Need-run-both-requires
-run-both-requires c κs =
-    let p = input-passes (c .before .before .before .before .before .before .before .before .before .before .before .before .before .before .before .before .before .before .before .before .before .before .before .before .before .pre .0) (asChecked (c .before .before .before .before .before .before .before .before .before .before .before .before .before .before .before .before .before .before .before .before .check-input .result)) (c .before .before .before .before .before .before .before .before .before .before .before .before .before .before .before .before .before .before .before .before .check-input .ensures (c .before .before .before .before .before .before .before .before .before .before .before .before .before .before .before .before .before .before .before .before .before .before .before .before .before .pre .0) (c .before .before .before .before .before .before .before .before .before .before .before .before .before .before .before .before .before .before .before .before .before .before .before .before .before .pre .1 .lead)) (c .before .before .before .before .before .before .before .before .before .before .before .before .before .before .before .before .before .before .if1 .left) in
-    let m = values-made (c .before .before .before .before .before .before .before .before .before .before .before .before .before .before .before .before .before .before .before .before .check-input .result .k) (p .low) in
-    (c .before .before .before .before .before .before .before .before .before .before .before .before .before .translate .kept .1 .1 .0 ∙ c .before .before .before .before .before .before .before .before .before .before .before .before .before .before .before .before .before .before .before .before .before .before .before .before .before .pre .1 .room, omega (arith, p .low), omega (arith, values-there (c .before .before .before .before .before .before .before .before .before .before .before .before .before .before .before .before .before .before .before .before .before .before .before .before .before .pre .1) p))
-
--- src/line.rt:46:1
+-- src/line.rt:60:9
 same-length-5 : tie.Need-same-length-5
 same-length-5 c = search needs
 
--- src/line.rt:46:1
+-- src/line.rt:60:9
 same-length-6 : tie.Need-same-length-6
 same-length-6 c = search needs
 
--- src/line.rt:46:1
+-- src/line.rt:60:9
 returns-3 : tie.Need-returns-3
 returns-3 c = (
   (λ input h.
-      let p = input-passes input (asChecked (c .before .before .before .before .before .before .before .before .before .before .before .before .before .before .before .before .before .before .before .before .before .before .before .before .before .before .check-input .result)) (c .before .before .before .before .before .before .before .before .before .before .before .before .before .before .before .before .before .before .before .before .before .before .before .before .before .before .check-input .ensures input (h .lead)) (c .before .before .before .before .before .before .before .before .before .before .before .before .before .before .before .before .before .before .before .before .before .before .before .before .if1 .left) in
+      let p = input-passes input (asChecked (c .before .before .before .before .before .before .before .before .before .before .before .before .before .before .before .before .before .check-input .result)) (c .before .before .before .before .before .before .before .before .before .before .before .before .before .before .before .before .before .check-input .ensures .0 input (h .lead)) (c .before .before .before .before .before .before .before .before .before .before .before .before .before .before .before .if1 .left) in
+      c .before .before .put-refused3 .ensures .0 ∙ sym (translate-refuses h p (c .before .before .before .before .before .before .before .before .before .before .before .get-u16 .result) (said-is h p (c .before .before .before .before .before .before .before .before .before .before .before .get-u16 .result) (c .before .before .before .before .before .before .before .before .before .before .before .get-u16 .ensures .0)) (asWrote (c .before .before .before .before .before .before .before .before .translate .result) (c .before .before .before .before .before .before .before .before .translate .last .1 .1 .0)) (c .before .before .before .before .before .before .before .before .translate .ensures) (c .before .before .before .before .if3 .taken))),
+  omega (arith, c .before .before .put-refused3 .ensures .1),
+)
+
+-- src/line.rt:62:19
+sub-zero : tie.Need-sub-zero
+unfolding programBuffer
+sub-zero c =
+    omega (arith, c .before .before .before .before .before .before .before .before .before .before .before .before .before .before .before .before .before .before .before .pre .0, c .before .before .before .before .before .before .before .before .get-u16 .ensures .0, c .before .before .before .before .before .before .before .before .before .before .before .before .before .before .check-input .ensures .1 (c .before .before .before .before .before .before .before .before .before .before .before .before .if1 .left) .0)
+
+-- src/line.rt:62:5
+zero-requires : tie.Need-zero-requires
+unfolding programBuffer
+zero-requires c κs =
+    omega (arith, c .before .before .before .before .before .before .before .before .before .before .before .before .before .before .before .before .before .before .before .pre .0, c .before .before .before .before .before .before .before .before .get-u16 .ensures .0, c .before .before .before .before .before .before .before .before .before .before .before .before .before .before .check-input .ensures .1 (c .before .before .before .before .before .before .before .before .before .before .before .before .if1 .left) .0)
+
+-- src/line.rt:68:9
+cast-run-both : tie.Need-cast-run-both
+cast-run-both c = search needs
+
+-- src/line.rt:70:22
+cast-store : tie.Need-cast-store
+cast-store c = search needs
+
+-- src/line.rt:70:9
+array-borrow-prefix-store : tie.Need-array-borrow-prefix-store
+array-borrow-prefix-store c =
+    c .before .before .before .before .before .before .before .before .before .before .before .before .before .before .before .before .before .before .before .before .before .check-input .ensures .1 (c .before .before .before .before .before .before .before .before .before .before .before .before .before .before .before .before .before .before .before .if1 .left) .1
+
+-- src/line.rt:70:9
+slice-aggregate-run-both : tie.Need-slice-aggregate-run-both
+slice-aggregate-run-both c =
+    sym (values-made (c .before .before .before .before .before .before .before .before .before .before .before .before .before .before .before .before .before .before .before .before .before .before .check-input .result .k) (c .before .before .before .before .before .before .before .before .before .before .before .before .before .before .before .before .before .before .before .before .before .before .check-input .ensures .1 (c .before .before .before .before .before .before .before .before .before .before .before .before .before .before .before .before .before .before .before .before .if1 .left) .1))
+
+-- src/line.rt:64:5
+run-both-requires : tie.Need-run-both-requires
+run-both-requires c κs =
+    let l = c .before .before .before .before .before .before .before .before .before .before .before .before .before .before .before .before .before .before .before .before .before .before .check-input .ensures .1 (c .before .before .before .before .before .before .before .before .before .before .before .before .before .before .before .before .before .before .before .before .if1 .left) .1 in
+    let m = values-made (c .before .before .before .before .before .before .before .before .before .before .before .before .before .before .before .before .before .before .before .before .before .before .check-input .result .k) l in
+    (c .before .before .before .before .before .before .before .before .before .before .before .before .before .translate .kept .1 .1 .0 ∙ c .before .before .before .before .before .before .before .before .before .before .before .before .before .before .before .before .before .before .before .before .before .before .before .before .before .before .before .pre .1, omega (arith, l, m), omega (arith, m, c .before .before .before .before .before .before .before .before .before .before .before .before .before .before .before .before .before .before .if2 .left))
+
+-- src/line.rt:45:1
+same-length-7 : tie.Need-same-length-7
+same-length-7 c = search needs
+
+-- src/line.rt:45:1
+same-length-8 : tie.Need-same-length-8
+same-length-8 c = search needs
+
+-- src/line.rt:45:1
+returns-4 : tie.Need-returns-4
+returns-4 c = (
+  (λ input h.
+      let p = input-passes input (asChecked (c .before .before .before .before .before .before .before .before .before .before .before .before .before .before .before .before .before .before .before .before .before .before .before .before .before .before .before .before .check-input .result)) (c .before .before .before .before .before .before .before .before .before .before .before .before .before .before .before .before .before .before .before .before .before .before .before .before .before .before .before .before .check-input .ensures .0 input (h .lead)) (c .before .before .before .before .before .before .before .before .before .before .before .before .before .before .before .before .before .before .before .before .before .before .before .before .before .before .if1 .left) in
       let s = c .before .before .before .before .before .before .before .before .before .before .before .before .before .before .before .before .before .before .before .before .before .before .get-u16 .result in
       let t = asWrote (c .before .before .before .before .before .before .before .before .before .before .before .before .before .before .before .before .before .before .before .translate .result) (c .before .before .before .before .before .before .before .before .before .before .before .before .before .before .before .before .before .before .before .translate .last .1 .1 .0) in
-      let vs = c .before .before .before .before .before .before .before .before .before .before .before .before .before .before .before .before .before .before .before .before .before .before .before .before .before .before .before .before .before .before .before .args .behind .now in
+      let vs = c .before .before .before .before .before .before .before .before .before .before .before .before .before .before .before .before .before .before .before .before .before .before .before .before .before .before .before .before .before .before .before .before .before .args .behind .now in
       let a₁ = c .before .before .before .before .before .before .before .before .before .before .before .before .before .zero .last .0 in
       c .before .before .before .before .before .run-both .ensures .0
-      ∙ ap (λ (n : ℕ). runsLine (runStepper a₁ s (valuesIn n vs) programBudget) (reducerFrom (substituteCall (t .written) (t .used) (valuesIn n vs)))) (values-made (c .before .before .before .before .before .before .before .before .before .before .before .before .before .before .before .before .before .before .before .before .before .before .before .before .before .before .check-input .result .k) (p .low))
-      ∙ runs-line h p s (said-is h p s (c .before .before .before .before .before .before .before .before .before .before .before .before .before .before .before .before .before .before .before .before .before .before .get-u16 .ensures .0)) t (c .before .before .before .before .before .before .before .before .before .before .before .before .before .before .before .before .before .before .before .translate .ensures) (c .before .before .before .before .before .before .before .before .before .before .before .before .before .before .before .if2 .left) a₁ (c .before .before .before .before .before .before .before .before .before .before .before .before .before .zero .ensures)),
+      ∙ ap (λ (n : ℕ). runsLine (runStepper a₁ s (valuesIn n vs) programBudget) (reducerFrom (substituteCall (t .written) (t .used) (valuesIn n vs)))) (values-made (c .before .before .before .before .before .before .before .before .before .before .before .before .before .before .before .before .before .before .before .before .before .before .before .before .before .before .before .before .check-input .result .k) (p .low))
+      ∙ runs-line h p s (said-is h p s (c .before .before .before .before .before .before .before .before .before .before .before .before .before .before .before .before .before .before .before .before .before .before .get-u16 .ensures .0)) t (c .before .before .before .before .before .before .before .before .before .before .before .before .before .before .before .before .before .before .before .translate .ensures) (c .before .before .before .before .before .before .before .before .before .before .before .before .before .before .before .if3 .left) a₁ (c .before .before .before .before .before .before .before .before .before .before .before .before .before .zero .ensures)),
   c .before .before .before .before .before .run-both .ensures .1,
 )
 
@@ -159,14 +189,20 @@ line-spec =
     same-length
     same-length-2
     returns
-    get-u16-requires
-    slice-reshare-prefix-translate
-    slice-aggregate-translate
-    translate-requires
+    cast-if2
+    mul-if2
     put-refused-requires-2
     same-length-3
     same-length-4
     returns-2
+    get-u16-requires
+    slice-reshare-prefix-translate
+    slice-aggregate-translate
+    translate-requires
+    put-refused-requires-3
+    same-length-5
+    same-length-6
+    returns-3
     sub-zero
     zero-requires
     cast-run-both
@@ -174,6 +210,6 @@ line-spec =
     array-borrow-prefix-store
     slice-aggregate-run-both
     run-both-requires
-    same-length-5
-    same-length-6
-    returns-3)
+    same-length-7
+    same-length-8
+    returns-4)
