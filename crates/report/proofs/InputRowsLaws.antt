@@ -13,10 +13,10 @@ use Rattle.buffer.specs.Slice.{part}
 use Rattle.buffer.proofs.LittleEndianLaws.{bytes-take}
 use Rattle.record.specs.Answers.{Checked, checkProgram, checkProgramRows, checkedBy}
 use Rattle.record.specs.Holding.{ProgramIn}
-use Rattle.record.specs.Rows.{NoRow, Row, badBlock, badBuffer, badHeader, badK, blockOutside, firstRow, kOf, programRows, row}
+use Rattle.record.specs.Rows.{NoRow, Row, badBlock, badBuffer, badHeader, badK, blockOutside, firstRow, programRows, row}
 use Rattle.record.proofs.AnswerLaws.{check-program-number, check-program-refused, checked-accepted, checked-refused}
-use Rattle.record.proofs.CheckedRowLaws.{first-before}
-use Rattle.record.proofs.HeldLaws.{buffer-good, good-k}
+use Rattle.record.proofs.CheckedRowLaws.{first-before, program-accepted}
+use Rattle.record.proofs.HeldLaws.{buffer-good}
 use Rattle.record.proofs.HoldingLaws.{check-program, program-k}
 use Rattle.record.proofs.RowLaws.{first-applies, first-none, first-skips, none-first}
 use Rattle.rules.specs.Syntax.{Block}
@@ -79,14 +79,8 @@ module _ (input : List ℕ) where
 -- WHAT THE CODE ANSWERS
 
 -- Whatever the input, the checker accepts at most 16 values.
-pub checked-k : (buf : List ℕ) (used : ℕ) (c : Checked) → c ≡ checkProgram buf used → c .number ≡ 0 → c .k ≤ 16
-unfolding checkProgram
-checked-k buf used c e z =
-    let n : firstRow (checkProgramRows buf used) ≡ 0 = sym (check-program-number buf used) ∙ sym (ap (λ (d : Checked). d .number) e) ∙ z in
-    let r = first-none (checkProgramRows buf used) refl n in
-    let k : c .k ≡ kOf buf used = ap (λ (d : Checked). d .k) (e ∙ checked-accepted (firstRow (checkProgramRows buf used)) (kOf buf used) n) in
-    let g = good-k buf used (r .1 .1 .0) in
-    omega (arith, g .1)
+pub checked-k : (a : List ℕ) (s : ℕ) → Bytes a → (c : Checked) → c ≡ checkProgram (take s a) s → c .number ≡ 0 → c .k ≤ 16
+checked-k a s b c e z = program-accepted (take s a) s (c .number) (c .k) (sym e) z (bytes-take s a b) .1 .1 .k-high
 
 -- A refusal says nothing of what is accepted.
 pub not-accepted : {P : Type 0} (n : ℕ) (c : Checked) → c ≡ record { number = n; k = 0 } → (n ≡ 0 → ⊥) → c .number ≡ 0 → P

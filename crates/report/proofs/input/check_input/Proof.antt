@@ -14,6 +14,7 @@ use lib.Seq.{length-take-le}
 use Rattle.checker.specs.Answer.{asChecked}
 use Rattle.report.proofs.InputRowsLaws.{check-refuses, input-accepted, record-read, rest-refuses, said-long, said-more, said-read, under-two, whole-read, checked-k, not-accepted}
 use Rattle.report.specs.Line.{programBuffer}
+use Rattle.buffer.proofs.LittleEndianLaws.{bytes-of}
 
 -- src/input.rt:30:9
 refused-requires : tie.Need-refused-requires
@@ -102,7 +103,7 @@ returns-6 c = (
       let r = record-read input a (c .before .before .before .before .before .before .before .before .before .before .before .args .total) h s (c .before .before .before .before .before .before .before .before .before .if1 .left) (c .before .before .before .before .before .before .before .before .get-u16 .ensures .0) (c .before .before .before .before .before .before .before .if2 .left) (c .before .before .before .before .before .before .if3 .left) in
       let w = whole-read input a (c .before .before .before .before .before .before .before .before .before .before .before .args .total) h s (c .before .before .before .before .before .before .before .before .before .if1 .left) (c .before .before .before .before .before .before .before .before .get-u16 .ensures .0) (c .before .before .before .before .before .before .before .if2 .left) (c .before .before .before .before .before .before .if3 .left) in
       input-accepted input a (c .before .before .before .before .before .before .before .before .before .before .before .args .total) h w (asChecked (c .before .before .before .before .check-program .result)) (c .before .before .before .before .check-program .ensures ∙ r) (c .before .before .if4 .left) s (said-read input a (c .before .before .before .before .before .before .before .before .before .before .before .args .total) h s (c .before .before .before .before .before .before .before .before .before .if1 .left) (c .before .before .before .before .before .before .before .before .get-u16 .ensures .0)) (c .if5 .left)),
-  λ z. (omega (arith, c .before .before .before .before .before .before .before .before .get-u16 .ensures .0, c .before .before .before .before .before .before .before .if2 .left), checked-k (take (c .before .before .before .before .before .before .before .before .get-u16 .result) (c .before .before .before .before .before .before .before .before .before .before .before .args .a .now)) (c .before .before .before .before .before .before .before .before .get-u16 .result) (asChecked (c .before .before .before .before .check-program .result)) (c .before .before .before .before .check-program .ensures) z),
+  λ z. (omega (arith, c .before .before .before .before .before .before .before .before .get-u16 .ensures .0, c .before .before .before .before .before .before .before .if2 .left), checked-k (c .before .before .before .before .before .before .before .before .before .before .before .args .a .now) (c .before .before .before .before .before .before .before .before .get-u16 .result) (bytes-of (c .before .before .before .before .before .before .before .before .before .before .before .args .a .now) (λ i _. omega (arith, c .before .before .before .before .before .before .before .before .before .before .shared-slice-known .given i))) (asChecked (c .before .before .before .before .check-program .result)) (c .before .before .before .before .check-program .ensures) z),
 )
 
 pub check-input-spec : {M : Type 1} → statement M
