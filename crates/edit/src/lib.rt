@@ -10,7 +10,7 @@ ghost use Rattle.place.specs.Edit.{lead, leafBytes, removed};
 ghost use Rattle.place.specs.Heads.{recordHead, shifted};
 ghost use Rattle.place.specs.Whole.{relengthAll};
 use buffer::get_u16;
-use buffer::move_down;
+use moves::move_down;
 use buffer::put_u16;
 use buffer::put_u32;
 use buffer::zero;

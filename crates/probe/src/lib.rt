@@ -22,7 +22,7 @@ pub extern "C" fn probe_move_down(buf: &mut [u8], from: usize, to: usize, count:
         return;
     }
     if within(buf.len(), from, count) {
-        buffer::move_down(buf, from, to, count);
+        moves::move_down(buf, from, to, count);
     }
 }
 
@@ -34,7 +34,7 @@ pub extern "C" fn probe_move_up(buf: &mut [u8], from: usize, to: usize, count: u
         return;
     }
     if within(buf.len(), to, count) {
-        buffer::move_up(buf, from, to, count);
+        moves::move_up(buf, from, to, count);
     }
 }
 
@@ -53,7 +53,7 @@ pub extern "C" fn probe_copy(src: &[u8], from: usize, dst: &mut [u8], to: usize,
 {
     if within(src.len(), from, count) {
         if within(dst.len(), to, count) {
-            buffer::copy(src, from, dst, to, count);
+            moves::copy(src, from, dst, to, count);
         }
     }
 }

@@ -7,7 +7,7 @@ ghost use Rattle.buffer.specs.Slice.{put};
 ghost use Rattle.report.specs.Decimal.{decimal};
 ghost use Rattle.report.specs.Line.{outcomeWord, ranLine, refusedLine, spaced, spacedAll};
 ghost use Rattle.run.specs.Represents.{asOutcome, asRunAnswer};
-use buffer::copy;
+use moves::copy;
 use run::Outcome;
 use run::RunEnd;
 

@@ -12,7 +12,7 @@ ghost use Rattle.stepping.specs.Plan.{planOf};
 ghost use Rattle.stepping.specs.State.{Stands};
 use crate::Plan;
 use crate::Rule;
-use buffer::move_up;
+use moves::move_up;
 use edit::put_head;
 use edit::put_lead;
 use edit::put_leaf;

@@ -3,7 +3,7 @@ use Rattle.probe.proofs.probe_copy.Statement.{statement}
 use Rattle.probe.proofs.probe_copy.Tie as tie
 use Rattle.probe.proofs.probe_copy.Reads as reads
 use Rattle.probe.proofs.probe_copy.Lts as lts
-use Rattle.buffer.proofs.copy.Reads as copy-reads
+use Rattle.moves.proofs.copy.Reads as copy-reads
 use Rattle.probe.proofs.within.Reads as within-reads
 use mathlib.Core.Path.{sym, _∙_}
 use Rattle.probe.proofs.ProbeLaws.{le-inside, copied-in, source-out, copied-out}

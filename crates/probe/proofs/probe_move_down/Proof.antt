@@ -3,7 +3,7 @@ use Rattle.probe.proofs.probe_move_down.Statement.{statement}
 use Rattle.probe.proofs.probe_move_down.Tie as tie
 use Rattle.probe.proofs.probe_move_down.Reads as reads
 use Rattle.probe.proofs.probe_move_down.Lts as lts
-use Rattle.buffer.proofs.move_down.Reads as move-down-reads
+use Rattle.moves.proofs.move_down.Reads as move-down-reads
 use Rattle.probe.proofs.within.Reads as within-reads
 use mathlib.Core.Path.{sym, _∙_}
 use Rattle.probe.proofs.ProbeLaws.{le-inside, moved-down, not-down, down-out}

@@ -3,7 +3,7 @@ use Rattle.probe.proofs.probe_move_up.Statement.{statement}
 use Rattle.probe.proofs.probe_move_up.Tie as tie
 use Rattle.probe.proofs.probe_move_up.Reads as reads
 use Rattle.probe.proofs.probe_move_up.Lts as lts
-use Rattle.buffer.proofs.move_up.Reads as move-up-reads
+use Rattle.moves.proofs.move_up.Reads as move-up-reads
 use Rattle.probe.proofs.within.Reads as within-reads
 use mathlib.Core.Path.{sym, _∙_}
 use Rattle.probe.proofs.ProbeLaws.{le-inside, moved-up, not-up, up-out}

@@ -4,7 +4,7 @@ use Rattle.report.proofs.print.put_word.Statement.{statement}
 use Rattle.report.proofs.print.put_word.Tie as tie
 use Rattle.report.proofs.print.put_word.Reads as reads
 use Rattle.report.proofs.print.put_word.Lts as lts
-use Rattle.buffer.proofs.copy.Reads as copy-reads
+use Rattle.moves.proofs.copy.Reads as copy-reads
 use mathlib.Core.Path.{_∙_, ap, refl}
 use Rattle.buffer.specs.Slice.{put}
 use Rattle.report.proofs.PrintLaws.{part-whole}
