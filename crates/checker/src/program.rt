@@ -7,6 +7,12 @@ use super::check_header;
 use super::check_variable;
 use super::number_of;
 use super::worst;
+use record::kind::ASSIGNMENT;
+use record::kind::BLOCK;
+use record::kind::LITERAL;
+use record::kind::LOOP;
+use record::kind::PROGRAM;
+use record::kind::VARIABLE;
 ghost use mathlib.Core.Path.{_≡_};
 ghost use lib.ListN.{length};
 ghost use Rattle.rules.specs.Scope.{boundInRange, exprInRange};
@@ -35,7 +41,7 @@ fn check_expression(s: &[u8], k: u32) -> Verdict
     let kind = buffer::get_u16(s, 2);
     match record::class_of(kind) {
         record::Class::Expression => {
-            if kind == 16 {
+            if kind == LITERAL {
                 Verdict::Good
             } else {
                 check_variable(buffer::get_u32(s, 4), k)
@@ -47,12 +53,12 @@ fn check_expression(s: &[u8], k: u32) -> Verdict
     }
 }
 
-// A bound is an expression of kind 16 or 17.
+// A bound is a literal or a variable, the first two kinds of expressions.
 fn check_bound(s: &[u8], k: u32) -> Verdict
     requires { ⌜ length (now s) ≡ 8 ⌝ }
     ensures { λ r. ⌜ r ≡ verdict (boundInRange k) (only (readBound (now (s .entry)))) ⌝ }
 {
-    if 17 < buffer::get_u16(s, 2) {
+    if VARIABLE < buffer::get_u16(s, 2) {
         return Verdict::Malformed;
     }
     check_expression(s, k)
@@ -90,7 +96,7 @@ fn open_loop(s: &[u8], k: u32) -> Head
     if s.len() < 20 {
         return no_command(s.len());
     }
-    if record::is_only(&s[16..], 1) {
+    if record::is_only(&s[16..], BLOCK) {
         let index = check_variable(buffer::get_u32(s, 4), k);
         Head {
             verdict: worst(index, check_bound(&s[8..16], k)),
@@ -101,7 +107,7 @@ fn open_loop(s: &[u8], k: u32) -> Head
     }
 }
 
-// The class decides, then the kind; 7, a program's own, is no command's. A head with nothing inside ends where the record ends.
+// The class decides, then the kind; a program's own is no command's. A head with nothing inside ends where the record ends.
 fn open_command(s: &[u8], k: u32) -> Head
     requires { ⌜ Front (now s) (length (now s)) ⌝ }
     ensures { λ r. ⌜ Opens k (now (s .entry)) (r .verdict) (r .inner) ⌝ }
@@ -109,15 +115,15 @@ fn open_command(s: &[u8], k: u32) -> Head
     let kind = buffer::get_u16(s, 2);
     match record::class_of(kind) {
         record::Class::Program => match kind {
-            1 => Head {
+            BLOCK => Head {
                 verdict: Verdict::Good,
                 inner: 4,
             },
-            2 => Head {
+            ASSIGNMENT => Head {
                 verdict: check_assignment(s, k),
                 inner: s.len(),
             },
-            3 => open_loop(s, k),
+            LOOP => open_loop(s, k),
             _ => no_command(s.len()),
         },
         record::Class::Expression => no_command(s.len()),
@@ -168,7 +174,7 @@ fn check_command(s: &[u8], k: u32, verdict: Verdict, inner: usize) -> Verdict
 fn check_contents(s: &[u8], k: u32) -> Verdict
     ensures { λ r. ⌜ r ≡ blockVerdict k (blockIn (now (s .entry))) ⌝ }
 {
-    if record::is_only(s, 1) {
+    if record::is_only(s, BLOCK) {
         check_block(&s[4..], k)
     } else {
         Verdict::Malformed
@@ -178,7 +184,7 @@ fn check_contents(s: &[u8], k: u32) -> Verdict
 pub fn check_program(buf: &[u8], used: usize) -> Checked
     ensures { λ r. ⌜ asChecked r ≡ checkProgram (now (buf .entry)) used ⌝ }
 {
-    let header = check_header(buf, used, 7);
+    let header = check_header(buf, used, PROGRAM);
     if header != 0 {
         return answer(header, 0);
     }

@@ -21,6 +21,15 @@ use super::record_kind;
 use super::worst;
 use buffer::get_u16;
 use buffer::get_u32;
+use record::kind::LET_ALL;
+use record::kind::LET_ONE;
+use record::kind::NUMERAL;
+use record::kind::PRED;
+use record::kind::REC;
+use record::kind::REFERENCE;
+use record::kind::SUCC;
+use record::kind::TERM;
+use record::kind::TUPLE;
 
 // What a term's head leaves to check.
 pub enum Opened {
@@ -54,8 +63,8 @@ fn check_atom(s: &[u8], k: u32) -> Verdict
     }
     let kind = term_kind(s);
     match kind {
-        32 => Verdict::Good,
-        33 => check_variable(get_u32(s, 4), k),
+        NUMERAL => Verdict::Good,
+        REFERENCE => check_variable(get_u32(s, 4), k),
         _ => Verdict::Malformed,
     }
 }
@@ -79,7 +88,7 @@ fn check_atoms(s: &[u8], k: u32) -> Verdict
 fn check_tuple(s: &[u8], k: u32) -> Verdict
     ensures { λ r. ⌜ r ≡ verdict (atomsInRange k) (onlyTuple k (now (s .entry))) ⌝ }
 {
-    if term_kind(s) != 36 {
+    if term_kind(s) != TUPLE {
         return Verdict::Malformed;
     }
     check_atoms(&s[4..], k)
@@ -91,7 +100,7 @@ fn check_simple(s: &[u8], k: u32) -> Verdict
 {
     let kind = term_kind(s);
     match kind {
-        34..=35 => check_atom(&s[4..], k),
+        SUCC..=PRED => check_atom(&s[4..], k),
         _ => check_atom(s, k),
     }
 }
@@ -145,10 +154,10 @@ fn open_term(s: &[u8], k: u32) -> Opened
 {
     let kind = term_kind(s);
     match kind {
-        36 => Opened::Whole(check_atoms(&s[4..], k)),
-        37 => open_let_one(s, k),
-        38 => open_let_all(s, k),
-        39 => open_rec(s, k),
+        TUPLE => Opened::Whole(check_atoms(&s[4..], k)),
+        LET_ONE => open_let_one(s, k),
+        LET_ALL => open_let_all(s, k),
+        REC => open_rec(s, k),
         _ => Opened::Whole(Verdict::Malformed),
     }
 }
@@ -184,7 +193,7 @@ fn check_term_contents(s: &[u8], k: u32) -> Verdict
 pub fn check_term(buf: &[u8], used: usize) -> Checked
     ensures { λ r. ⌜ asChecked r ≡ checkTerm (now (buf .entry)) used ⌝ }
 {
-    let number = check_header(buf, used, 40);
+    let number = check_header(buf, used, TERM);
     if number != 0 {
         return answer(number, 0);
     }

@@ -10,10 +10,10 @@ ghost use Rattle.place.specs.Edit.{lead, leafBytes, removed};
 ghost use Rattle.place.specs.Heads.{recordHead, shifted};
 ghost use Rattle.place.specs.Whole.{relengthAll};
 use buffer::get_u16;
-use moves::move_down;
 use buffer::put_u16;
 use buffer::put_u32;
 use buffer::zero;
+use moves::move_down;
 
 // The first four bytes of a record of n bytes.
 pub fn put_head(buf: &mut [u8], at: usize, kind: usize, n: usize)

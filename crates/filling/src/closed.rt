@@ -9,20 +9,20 @@ ghost use Rattle.rules.specs.FreeVariables.{allVars, closed, closedAtom, closed
 ghost use Rattle.rules.specs.Syntax.{Atom, Term};
 ghost use Rattle.filling.specs.Marks.{marked};
 ghost use Rattle.filling.specs.Ranged.{RangedAtom, RangedAtoms, RangedTerm};
-use crate::path::LET_ALL;
-use crate::path::LET_ONE;
-use crate::path::VARIABLE;
 use crate::path::bound_atom;
 use buffer::get_u16;
 use buffer::get_u32;
-use numerals::TUPLE;
 use record::HEADER_LENGTH;
+use record::kind::LET_ALL;
+use record::kind::LET_ONE;
+use record::kind::REFERENCE;
+use record::kind::TUPLE;
 
 fn closed_atom(buf: &[u8], at: usize, bound: &[bool; 17]) -> bool
     requires { ⌜ ((a : Atom) × RangedAtom (now buf) at a) ⌝ }
     ensures { λ r. ⌜ ((a : Atom) → RangedAtom (now (buf .entry)) at a → r ≡ closedAtom (marked (now (bound .entry))) a) ⌝ }
 {
-    if get_u16(buf, at + 2) == VARIABLE {
+    if get_u16(buf, at + 2) == REFERENCE {
         let x = get_u32(buf, at + 4) as usize;
         return bound[x];
     }

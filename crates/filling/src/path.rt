@@ -5,17 +5,7 @@ ghost use Prim.Native.Nat.{_+_, _≤_};
 ghost use lib.ListN.{length};
 ghost use Rattle.filling.specs.BoundAtom.{boundAtom};
 use buffer::get_u16;
-
-// Kinds, as 01 numbers them.
-pub const NUMERAL: usize = 32;
-
-pub const VARIABLE: usize = 33;
-
-pub const SUCC: usize = 34;
-
-pub const LET_ONE: usize = 37;
-
-pub const LET_ALL: usize = 38;
+use record::kind::SUCC;
 
 // Where the atom stands that the let-one at p binds, or binds succ or pred of: these have a head of their own in front.
 pub fn bound_atom(buf: &[u8], p: usize) -> usize

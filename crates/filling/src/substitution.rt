@@ -13,26 +13,26 @@ ghost use Rattle.rules.specs.Substitution.{fromStore, substitute, substituteAto
 ghost use Rattle.rules.specs.Syntax.{Atom, Term};
 ghost use Rattle.filling.specs.Ranged.{RangedAtom, RangedAtoms, RangedTerm};
 ghost use Rattle.numerals.specs.Values.{substitutionOf};
-use crate::path::LET_ALL;
-use crate::path::LET_ONE;
-use crate::path::NUMERAL;
-use crate::path::VARIABLE;
 use crate::path::bound_atom;
 use buffer::get_u16;
 use buffer::get_u32;
 use buffer::put_u16;
 use buffer::put_u32;
 use buffer::zero;
-use numerals::TUPLE;
 use numerals::values::STAYS;
 use numerals::values::from_store;
 use record::HEADER_LENGTH;
+use record::kind::LET_ALL;
+use record::kind::LET_ONE;
+use record::kind::NUMERAL;
+use record::kind::REFERENCE;
+use record::kind::TUPLE;
 
 fn substitute_atom(buf: &mut [u8], at: usize, values: &[u64; 17])
     requires { ⌜ ((a : Atom) × RangedAtom (now buf) at a) × (length (now values) ≡ 17) ⌝ }
     ensures { λ _. ⌜ ((a : Atom) → RangedAtom (now (buf .entry)) at a → now (buf .exit) ≡ put (now (buf .entry)) at (encodeAtom (substituteAtom (substitutionOf (now (values .entry))) a))) ⌝ }
 {
-    if get_u16(buf, at + 2) == VARIABLE {
+    if get_u16(buf, at + 2) == REFERENCE {
         let x = get_u32(buf, at + 4) as usize;
         let v = values[x];
         if v < STAYS {

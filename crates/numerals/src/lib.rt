@@ -11,11 +11,9 @@ ghost use Rattle.rules.specs.Syntax.{Term, num, tuple};
 use buffer::get_u16;
 use buffer::get_u32;
 use record::HEADER_LENGTH;
+use record::kind::TUPLE;
 
 pub mod values;
-
-// The kind of a tuple.
-pub const TUPLE: usize = 36;
 
 pub fn is_finished(buf: &[u8], used: usize) -> bool
     requires { ⌜ ((k : ℕ) × ((t : Term) × TermIn allVars k t (now buf) used)) × (length (now buf) ≤ 16384) ⌝ }

@@ -23,6 +23,16 @@ ghost use Rattle.readback.specs.Scan.{TermsAt, ownSize};
 use edit::put_head;
 use edit::put_lead;
 use record::HEADER_LENGTH;
+use record::kind::ASSIGNMENT;
+use record::kind::BLOCK;
+use record::kind::LET_ALL;
+use record::kind::LET_ONE;
+use record::kind::LOOP;
+use record::kind::PROGRAM;
+use record::kind::REC;
+use record::kind::REFERENCE;
+use record::kind::SUCC;
+use record::kind::TUPLE;
 
 // From a term to the next one met.
 fn own_size(src: &[u8], at: usize, k: u32) -> usize
@@ -30,16 +40,16 @@ fn own_size(src: &[u8], at: usize, k: u32) -> usize
     ensures { λ r. ⌜ ((t : Term) → TermAt (now (src .entry)) at k t → r ≡ ownSize t) ⌝ }
 {
     let kind = buffer::get_u16(src, at + 2);
-    if kind == 36 {
+    if kind == TUPLE {
         return 4 + 8 * k as usize;
     }
-    if kind == 37 {
-        if buffer::get_u16(src, at + 10) < 34 {
+    if kind == LET_ONE {
+        if buffer::get_u16(src, at + 10) < SUCC {
             return 16;
         }
         return 20;
     }
-    if kind == 38 {
+    if kind == LET_ALL {
         return 4;
     }
     20 + 8 * k as usize
@@ -52,7 +62,7 @@ fn is_all(src: &[u8], at: usize, k: u32) -> bool
     let mut p = at;
     let mut i = 1;
     while i <= k {
-        if buffer::get_u16(src, p + 2) != 33 {
+        if buffer::get_u16(src, p + 2) != REFERENCE {
             return false;
         }
         if buffer::get_u32(src, p + 4) != i {
@@ -70,16 +80,16 @@ fn is_legal(src: &[u8], at: usize, k: u32, first: bool) -> bool
     ensures { λ r. ⌜ ((t : Term) → TermAt (now (src .entry)) at k t → r ≡ legal k first t) ⌝ }
 {
     let kind = buffer::get_u16(src, at + 2);
-    if kind == 36 {
+    if kind == TUPLE {
         return is_all(src, at + 4, k);
     }
-    if kind == 37 {
-        if buffer::get_u16(src, at + 10) < 34 {
+    if kind == LET_ONE {
+        if buffer::get_u16(src, at + 10) < SUCC {
             return true;
         }
-        return buffer::get_u16(src, at + 14) == 33;
+        return buffer::get_u16(src, at + 14) == REFERENCE;
     }
-    if kind == 38 {
+    if kind == LET_ALL {
         return true;
     }
     if first {
@@ -98,7 +108,7 @@ pub fn is_translation(src: &[u8], used: usize, k: u32) -> bool
         if !is_legal(src, at, k, first) {
             return false;
         }
-        first = buffer::get_u16(src, at + 2) == 38;
+        first = buffer::get_u16(src, at + 2) == LET_ALL;
         at += own_size(src, at, k);
     }
     true
@@ -110,14 +120,14 @@ fn own_command_size(src: &[u8], at: usize) -> usize
     ensures { λ r. ⌜ ((k : ℕ) (t : Term) → TermAt (now (src .entry)) at k t → r ≡ length (ownCommand t)) ⌝ }
 {
     let kind = buffer::get_u16(src, at + 2);
-    if kind == 36 {
+    if kind == TUPLE {
         return 0;
     }
-    if kind == 37 {
+    if kind == LET_ONE {
         return 16;
     }
-    if kind == 38 {
-        if buffer::get_u16(src, at + 6) == 39 {
+    if kind == LET_ALL {
+        if buffer::get_u16(src, at + 6) == REC {
             return 0;
         }
         return 4;
@@ -152,8 +162,8 @@ fn put_loop(out: &mut [u8], at: usize, x: u32, kind: usize, v: u32, n: usize)
     requires { ⌜ (at + 20 ≤ length (now out)) × (n < 65536) ⌝ }
     ensures { λ _. ⌜ now (out .exit) ≡ put (now (out .entry)) at (loopBytes x kind v n) ⌝ }
 {
-    put_lead(out, at, 3, 20 + n, x, kind, v);
-    put_head(out, at + 16, 1, 4 + n);
+    put_lead(out, at, LOOP, 20 + n, x, kind, v);
+    put_head(out, at + 16, BLOCK, 4 + n);
 }
 
 fn write_let_one(src: &[u8], at: usize, k: u32, out: &mut [u8], o: usize)
@@ -164,18 +174,18 @@ fn write_let_one(src: &[u8], at: usize, k: u32, out: &mut [u8], o: usize)
     let kind = buffer::get_u16(src, at + 10) - 16;
     // A let-one's own bytes end with the number of its atom.
     let v = buffer::get_u32(src, at + own_size(src, at, k) - 4);
-    put_lead(out, o, 2, 16, x, kind, v);
+    put_lead(out, o, ASSIGNMENT, 16, x, kind, v);
 }
 
 fn write_let_all(src: &[u8], at: usize, k: u32, out: &mut [u8], o: usize)
     requires { ⌜ ((t : Term) × TermAt (now src) at k t × (o + length (ownCommand t) ≤ length (now out))) × (val (part (now src) (at + 2) 2) ≡ 38) ⌝ }
     ensures { λ _. ⌜ ((t : Term) → TermAt (now (src .entry)) at k t → now (out .exit) ≡ put (now (out .entry)) o (ownCommand t)) ⌝ }
 {
-    if buffer::get_u16(src, at + 6) == 39 {
+    if buffer::get_u16(src, at + 6) == REC {
         return;
     }
     let n = commands_size(src, at + 4, at + 4 + buffer::get_u16(src, at + 4), k);
-    put_head(out, o, 1, 4 + n);
+    put_head(out, o, BLOCK, 4 + n);
 }
 
 fn write_rec(src: &[u8], at: usize, k: u32, out: &mut [u8], o: usize)
@@ -199,14 +209,14 @@ fn write_own(src: &[u8], at: usize, k: u32, out: &mut [u8], o: usize)
     ensures { λ _. ⌜ ((t : Term) → TermAt (now (src .entry)) at k t → now (out .exit) ≡ put (now (out .entry)) o (ownCommand t)) ⌝ }
 {
     let kind = buffer::get_u16(src, at + 2);
-    if kind == 36 {
+    if kind == TUPLE {
         return;
     }
-    if kind == 37 {
+    if kind == LET_ONE {
         write_let_one(src, at, k, out, o);
         return;
     }
-    if kind == 38 {
+    if kind == LET_ALL {
         write_let_all(src, at, k, out, o);
         return;
     }
@@ -232,9 +242,9 @@ pub fn write_source(src: &[u8], used: usize, k: u32, out: &mut [u8])
     ensures { λ _. ⌜ ((t : Term) (P : Block) → TermIn allVars k t (now (src .entry)) used → readBack k t ≡ some P → now (out .exit) ≡ padded (length (now (out .entry))) (encodeProgram k P)) ⌝ }
 {
     let n = source_size(src, used, k);
-    put_head(out, 0, 7, n);
+    put_head(out, 0, PROGRAM, n);
     buffer::put_u32(out, 4, k);
-    put_head(out, HEADER_LENGTH, 1, n - HEADER_LENGTH);
+    put_head(out, HEADER_LENGTH, BLOCK, n - HEADER_LENGTH);
     write_commands(src, HEADER_LENGTH, used, k, out, HEADER_LENGTH + 4);
     let room = out.len();
     buffer::zero(out, n, room - n);

@@ -5,6 +5,8 @@ ghost use lib.ListN.{length};
 ghost use Rattle.record.specs.Class.{classOf};
 ghost use Rattle.record.specs.Front.{firstLength, isOnly};
 
+pub mod kind;
+
 // A program's or a term's record has its length, its kind and k before its contents.
 pub const HEADER_LENGTH: usize = 8;
 

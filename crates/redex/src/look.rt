@@ -15,18 +15,12 @@ ghost use Rattle.rules.specs.Syntax.{Term};
 ghost use Rattle.redex.specs.Plan.{planOf, planRaise, planRedex};
 use crate::Plan;
 use crate::Rule;
-
-const NUMERAL: usize = 32;
-
-const PRED: usize = 35;
-
-const TUPLE: usize = 36;
-
-const LET_ONE: usize = 37;
-
-const LET_ALL: usize = 38;
-
-const REC: usize = 39;
+use record::kind::LET_ALL;
+use record::kind::LET_ONE;
+use record::kind::NUMERAL;
+use record::kind::PRED;
+use record::kind::REC;
+use record::kind::TUPLE;
 
 const LARGEST_VALUE: u32 = 4294967295;
 

@@ -14,8 +14,6 @@ ghost use Rattle.redex.specs.Plan.{planOf};
 ghost use Rattle.reducing.specs.Perform.{EditFits, Edited, Performed, Ready, filledAt, numeralAt, stoppedAt, unrolledAt};
 ghost use Rattle.reducing.specs.State.{Stands};
 use buffer::get_u16;
-use moves::move_down;
-use moves::move_up;
 use buffer::put_u16;
 use edit::put_head;
 use edit::put_lead;
@@ -23,8 +21,13 @@ use edit::put_leaf;
 use edit::relength;
 use edit::remove;
 use filling::substitution::substitute_at;
+use moves::move_down;
+use moves::move_up;
 use numerals::values::from_tuple;
 use numerals::values::only;
+use record::kind::LET_ALL;
+use record::kind::LET_ONE;
+use record::kind::NUMERAL;
 use redex::Plan;
 use redex::Rule;
 
@@ -45,7 +48,7 @@ fn set_numeral(buf: &mut [u8], at: usize, used: usize, v: u32)
     let n = get_u16(buf, at);
     remove(buf, at + 8, 4, used);
     put_u16(buf, at, n - 4);
-    put_leaf(buf, at + 8, 32, v);
+    put_leaf(buf, at + 8, NUMERAL, v);
 }
 
 // Let-all of a tuple: its numerals go into the last term, and the n bytes of its head and the tuple go.
@@ -80,9 +83,9 @@ fn unroll(buf: &mut [u8], at: usize, k: u32, used: usize, up: usize, x: u32, v: 
     let q = v - 1;
     move_up(buf, body, at + n + 20, used - body);
     move_up(buf, at, at + 4, n);
-    put_head(buf, at, 38, n + up);
-    put_leaf(buf, at + 12, 32, q);
-    put_lead(buf, at + 4 + n, 37, up - 4, x, 32, v);
+    put_head(buf, at, LET_ALL, n + up);
+    put_leaf(buf, at + 12, NUMERAL, q);
+    put_lead(buf, at + 4 + n, LET_ONE, up - 4, x, NUMERAL, v);
 }
 
 // The redex of a plan changed, and what is behind it moved.

@@ -13,6 +13,12 @@ ghost use Rattle.place.specs.ProgramView.{BlockAt};
 ghost use Rattle.stepping.specs.Plan.{planAssign, planLoop, planOf};
 use crate::Plan;
 use crate::Rule;
+use record::kind::ASSIGNMENT;
+use record::kind::BLOCK;
+use record::kind::LITERAL;
+use record::kind::LOOP;
+use record::kind::MINUS_ONE;
+use record::kind::VARIABLE;
 
 // Where the commands of a program's block start: behind the header and the head of that block.
 const COMMANDS: usize = record::HEADER_LENGTH + 4;
@@ -22,7 +28,7 @@ fn opens(buf: &[u8], p: usize) -> bool
     requires { ⌜ p + 4 ≤ length (now buf) ⌝ }
     ensures { λ r. ⌜ r ≡ opensAt (now (buf .entry)) p ⌝ }
 {
-    if buffer::get_u16(buf, p + 2) == 1 {
+    if buffer::get_u16(buf, p + 2) == BLOCK {
         4 < buffer::get_u16(buf, p)
     } else {
         false
@@ -49,7 +55,7 @@ fn look_assign(buf: &[u8], at: usize, levels: usize, store: &[u32]) -> Plan
     let variable = buffer::get_u32(buf, at + 4);
     let kind = buffer::get_u16(buf, at + 10);
     let number = buffer::get_u32(buf, at + 12);
-    if kind == 16 {
+    if kind == LITERAL {
         return Plan {
             rule: Rule::Store,
             levels: levels,
@@ -61,7 +67,7 @@ fn look_assign(buf: &[u8], at: usize, levels: usize, store: &[u32]) -> Plan
         };
     }
     let value = run::value::value_of(store, number);
-    if kind == 17 {
+    if kind == VARIABLE {
         return Plan {
             rule: Rule::Store,
             levels: levels,
@@ -72,7 +78,7 @@ fn look_assign(buf: &[u8], at: usize, levels: usize, store: &[u32]) -> Plan
             down: 16,
         };
     }
-    if kind == 19 {
+    if kind == MINUS_ONE {
         let less = run::value::minus_one(value);
         return Plan {
             rule: Rule::Literal,
@@ -106,12 +112,12 @@ fn look_assign(buf: &[u8], at: usize, levels: usize, store: &[u32]) -> Plan
     }
 }
 
-// The value of a loop's bound, of kind 16 or 17.
+// The value of a loop's bound, a literal or a variable.
 fn bound_value(kind: usize, number: u32, store: &[u32]) -> u32
     requires { ⌜ ((b : Bound) × ((kind ≡ boundKind b) × ((number ≡ boundNumber b) × BoundWithin (length (now store)) b))) ⌝ }
     ensures { λ r. ⌜ ((b : Bound) → kind ≡ boundKind b → number ≡ boundNumber b → r ≡ boundValue (now (store .entry)) b) ⌝ }
 {
-    if kind == 16 {
+    if kind == LITERAL {
         number
     } else {
         run::value::value_of(store, number)
@@ -169,10 +175,10 @@ pub fn look(buf: &[u8], used: usize, store: &[u32]) -> Plan
     let levels = open_levels(buf);
     let at = COMMANDS + 4 * levels;
     let kind = buffer::get_u16(buf, at + 2);
-    if kind == 2 {
+    if kind == ASSIGNMENT {
         return look_assign(buf, at, levels, store);
     }
-    if kind == 3 {
+    if kind == LOOP {
         return look_loop(buf, at, levels, store);
     }
     Plan {

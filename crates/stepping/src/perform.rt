@@ -12,12 +12,15 @@ ghost use Rattle.stepping.specs.Plan.{planOf};
 ghost use Rattle.stepping.specs.State.{Stands};
 use crate::Plan;
 use crate::Rule;
-use moves::move_up;
 use edit::put_head;
 use edit::put_lead;
 use edit::put_leaf;
 use edit::relength;
 use edit::remove;
+use moves::move_up;
+use record::kind::ASSIGNMENT;
+use record::kind::BLOCK;
+use record::kind::LITERAL;
 
 // The store's first value is variable 1's.
 fn set_value(store: &mut [u32], variable: u32, value: u32)
@@ -34,7 +37,7 @@ fn stop(buf: &mut [u8], at: usize, n: usize, used: usize)
     ensures { λ _. ⌜ now (buf .exit) ≡ stoppedAt (now (buf .entry)) at n used ⌝ }
 {
     remove(buf, at + 4, n, used);
-    put_head(buf, at, 1, 4);
+    put_head(buf, at, BLOCK, 4);
 }
 
 // Rule 9: a loop's record of n bytes becomes a block's of n + n bytes. The body and what is behind it move up in one piece, so
@@ -46,9 +49,9 @@ fn unroll(buf: &mut [u8], at: usize, n: usize, used: usize, x: u32, v: u32)
     let q = v - 1;
     move_up(buf, at + 20, at + n + 20, used - (at + 20));
     move_up(buf, at, at + 4, n);
-    put_head(buf, at, 1, n + n);
-    put_leaf(buf, at + 12, 16, q);
-    put_lead(buf, at + 4 + n, 2, 16, x, 16, v);
+    put_head(buf, at, BLOCK, n + n);
+    put_leaf(buf, at + 12, LITERAL, q);
+    put_lead(buf, at + 4 + n, ASSIGNMENT, 16, x, LITERAL, v);
 }
 
 // The command of a plan changed, and what is behind it moved.
@@ -61,7 +64,7 @@ fn edit(buf: &mut [u8], used: usize, p: Plan)
         Rule::Finished => {}
         Rule::Over => {}
         Rule::Store => remove(buf, p.at, 16, used),
-        Rule::Literal => put_leaf(buf, p.at + 8, 16, p.value),
+        Rule::Literal => put_leaf(buf, p.at + 8, LITERAL, p.value),
         Rule::Remove => remove(buf, p.at, 4, used),
         Rule::Stop => stop(buf, p.at, p.down, used),
         Rule::Unroll => unroll(buf, p.at, p.up, used, p.variable, p.value),

@@ -16,6 +16,15 @@ use edit::put_head;
 use edit::put_lead;
 use edit::put_leaf;
 use record::HEADER_LENGTH;
+use record::kind::ASSIGNMENT;
+use record::kind::LET_ALL;
+use record::kind::LET_ONE;
+use record::kind::LOOP;
+use record::kind::PLUS_ONE;
+use record::kind::REC;
+use record::kind::REFERENCE;
+use record::kind::TERM;
+use record::kind::TUPLE;
 
 // A row of commands, from `from` up to `to` in the source, and the place of its translation, from `start` up to `stop` in
 // the output.
@@ -42,7 +51,7 @@ fn let_one_size(src: &[u8], at: usize) -> usize
     requires { ⌜ at + 16 ≤ length (now src) ⌝ }
     ensures { λ r. ⌜ r ≡ letOneSize (ltb (u16At (now (src .entry)) (at + 10)) 18) ⌝ }
 {
-    if buffer::get_u16(src, at + 10) < 18 {
+    if buffer::get_u16(src, at + 10) < PLUS_ONE {
         16
     } else {
         20
@@ -60,10 +69,10 @@ fn row_size(src: &[u8], from: usize, to: usize, k: u32) -> usize
     let mut at = from;
     while at < to {
         let kind = buffer::get_u16(src, at + 2);
-        if kind == 2 {
+        if kind == ASSIGNMENT {
             total += let_one_size(src, at);
             at += 16;
-        } else if kind == 3 {
+        } else if kind == LOOP {
             total += 20 + 2 * tuple;
             at += 20;
         } else {
@@ -86,11 +95,11 @@ fn write_tuple(out: &mut [u8], o: usize, k: u32)
     requires { ⌜ (o + (4 + 8 * k) ≤ length (now out)) × (k ≤ 16) ⌝ }
     ensures { λ _. ⌜ now (out .exit) ≡ put (now (out .entry)) o (allBytes k) ⌝ }
 {
-    put_head(out, o, 36, tuple_size(k));
+    put_head(out, o, TUPLE, tuple_size(k));
     let mut p = o + 4;
     let mut x = 1;
     while x <= k {
-        put_leaf(out, p, 33, x);
+        put_leaf(out, p, REFERENCE, x);
         p += 8;
         x += 1;
     }
@@ -114,14 +123,14 @@ fn write_let_one(src: &[u8], at: usize, out: &mut [u8], o: usize, n: usize) -> u
     ensures { λ r. ⌜ (now (out .exit) ≡ put (now (out .entry)) o (letOneHead (now (src .entry)) at n)) × (r ≡ o + letOneSize (ltb (u16At (now (src .entry)) (at + 10)) 18)) ⌝ }
 {
     let kind = buffer::get_u16(src, at + 10);
-    if kind < 18 {
-        write_lead(src, at, out, o, 37, n);
+    if kind < PLUS_ONE {
+        write_lead(src, at, out, o, LET_ONE, n);
         return o + 16;
     }
-    put_head(out, o, 37, n);
+    put_head(out, o, LET_ONE, n);
     buffer::put_u32(out, o + 4, buffer::get_u32(src, at + 4));
     put_head(out, o + 8, kind + 16, 12);
-    put_leaf(out, o + 12, 33, buffer::get_u32(src, at + 12));
+    put_leaf(out, o + 12, REFERENCE, buffer::get_u32(src, at + 12));
     o + 20
 }
 
@@ -130,7 +139,7 @@ fn past_heads(src: &[u8], whole: Task, k: u32) -> Task
     requires { ⌜ (TaskIn k (now src) whole) × (whole .from < whole .to) ⌝ }
     ensures { λ r. ⌜ r ≡ pastHeads k (now (src .entry)) whole ⌝ }
 {
-    if buffer::get_u16(src, whole.from + 2) == 3 {
+    if buffer::get_u16(src, whole.from + 2) == LOOP {
         return Task {
             from: whole.from + 20,
             to: whole.to,
@@ -186,10 +195,10 @@ fn write_let_all(src: &[u8], whole: Task, inner: Task, k: u32, out: &mut [u8])
     ensures { λ _. ⌜ now (out .exit) ≡ put (now (out .entry)) (whole .start) (letAllHead k (now (src .entry)) (whole .from) (whole .stop - whole .start) (inner .stop - inner .start)) ⌝ }
 {
     let o = whole.start;
-    put_head(out, o, 38, whole.stop - o);
-    if buffer::get_u16(src, whole.from + 2) == 3 {
+    put_head(out, o, LET_ALL, whole.stop - o);
+    if buffer::get_u16(src, whole.from + 2) == LOOP {
         let n = 16 + tuple_size(k) + (inner.stop - inner.start);
-        write_lead(src, whole.from, out, o + 4, 39, n);
+        write_lead(src, whole.from, out, o + 4, REC, n);
         write_tuple(out, o + 20, k);
     }
 }
@@ -202,7 +211,7 @@ fn write_row(src: &[u8], task: Task, k: u32, out: &mut [u8])
 {
     let mut left = task;
     while left.from < left.to {
-        if buffer::get_u16(src, left.from + 2) == 2 {
+        if buffer::get_u16(src, left.from + 2) == ASSIGNMENT {
             left.start = write_let_one(src, left.from, out, left.start, left.stop - left.start);
             left.from += 16;
         } else {
@@ -227,7 +236,7 @@ pub fn write_translation(src: &[u8], used: usize, k: u32, out: &mut [u8])
     ensures { λ _. ⌜ ((P : Block) → ProgramIn k P (now (src .entry)) used → now (out .exit) ≡ padded (length (now (out .entry))) (encodeTerm k (translate k P))) ⌝ }
 {
     let total = translation_size(src, used, k);
-    put_head(out, 0, 40, total);
+    put_head(out, 0, TERM, total);
     buffer::put_u32(out, 4, k);
     let whole = Task {
         from: HEADER_LENGTH + 4,
