@@ -43,24 +43,21 @@ module _ (levels at x : ℕ) (e : Expr) (s : List ℕ) where
   unfolding planAssign
   plan-dec h = ap (λ a. planAssign levels at x a s) (kind-dec e h)
 
-  raise-is : exprKind e ≡ 18
+  pub plan-inc : exprKind e ≡ 18
       → planAssign levels at x e s ≡ planRaise levels at x (suc (lookup s (exprNumber e))) (fitsWord (suc (lookup s (exprNumber e))))
   unfolding planAssign
-  raise-is h = ap (λ a. planAssign levels at x a s) (kind-inc e h)
+  plan-inc h = ap (λ a. planAssign levels at x a s) (kind-inc e h)
 
-  pub plan-over : exprKind e ≡ 18 → lookup s (exprNumber e) ≡ 4294967295 → planAssign levels at x e s ≡ plan levels at Over x 0 0 0
-  unfolding planRaise fitsWord
-  plan-over h v =
-      raise-is h
-      ∙ ap (planRaise levels at x (suc (lookup s (exprNumber e)))) (le-ltb (suc (lookup s (exprNumber e))) 4294967296 (omega arith))
+-- plus one, of a plain number
+pub raise-over : (levels at x n : ℕ) → n ≡ 4294967295 → plan levels at Over x 0 0 0 ≡ planRaise levels at x (suc n) (fitsWord (suc n))
+unfolding planRaise fitsWord
+raise-over levels at x n e = sym (ap (planRaise levels at x (suc n)) (le-ltb (suc n) 4294967296 (omega arith)))
 
-  pub plan-inc : exprKind e ≡ 18 → (w : ℕ) → w ≡ lookup s (exprNumber e) + 1 → w < 4294967296 → planAssign levels at x e s ≡ plan levels at Literal x w 0 0
-  unfolding planRaise
-  plan-inc h w q v =
-      let n : suc (lookup s (exprNumber e)) ≡ w = omega arith in
-      raise-is h
-      ∙ ap (planRaise levels at x (suc (lookup s (exprNumber e)))) (below-fitsWord (suc (lookup s (exprNumber e))) (omega arith))
-      ∙ ap (λ (m : ℕ). plan levels at Literal x m 0 0) n
+pub raise-literal : (levels at x n w : ℕ) → w ≡ n + 1 → w < 4294967296 → plan levels at Literal x w 0 0 ≡ planRaise levels at x (suc n) (fitsWord (suc n))
+unfolding planRaise
+raise-literal levels at x n w q b =
+    let m : w ≡ suc n = omega arith in
+    ap (λ (y : ℕ). plan levels at Literal x y 0 0) m ∙ sym (ap (planRaise levels at x (suc n)) (below-fitsWord (suc n) (omega arith)))
 
 -- LOOPS
 

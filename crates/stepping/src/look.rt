@@ -1,16 +1,18 @@
 // The look before the write: the plan of the next step, from the bytes and the store, with nothing changed.
 ghost use mathlib.Core.Path.{_≡_};
-ghost use Prim.Native.Nat.{ℕ, _+_, _*_, _≤_, _<_};
+ghost use Prim.Native.Nat.{ℕ, suc, _+_, _*_, _≤_, _<_};
 ghost use mathlib.Core.List.{List};
 ghost use lib.ListN.{length};
 ghost use Rattle.rules.specs.Syntax.{Block, Bound, Expr, assign, loop};
 ghost use Rattle.rules.specs.Scope.{BoundWithin, ExprWithin};
 ghost use Rattle.rules.specs.Step.{boundValue};
+ghost use Rattle.rules.specs.Store.{fitsWord};
 ghost use Rattle.record.specs.Program.{blockSize, boundKind, boundNumber};
 ghost use Rattle.record.specs.Holding.{ProgramIn};
 ghost use Rattle.place.specs.Path.{opensAt, path};
 ghost use Rattle.place.specs.ProgramView.{BlockAt};
-ghost use Rattle.stepping.specs.Plan.{planAssign, planLoop, planOf};
+ghost use Rattle.stepping.specs.Plan.{plan, planAssign, planLoop, planOf, planRaise};
+ghost use Rattle.stepping.specs.declared.Rule.the-variants.{Store};
 use crate::Plan;
 use crate::Rule;
 use record::kind::ASSIGNMENT;
@@ -22,6 +24,9 @@ use record::kind::VARIABLE;
 
 // Where the commands of a program's block start: behind the header and the head of that block.
 const COMMANDS: usize = record::HEADER_LENGTH + 4;
+
+// Plus one of it is too large.
+const LARGEST_VALUE: u32 = 4294967295;
 
 // Whether a block with commands in it begins at p.
 fn opens(buf: &[u8], p: usize) -> bool
@@ -47,50 +52,26 @@ fn open_levels(buf: &[u8]) -> usize
     levels
 }
 
-// The plan of an assignment at index at.
-fn look_assign(buf: &[u8], at: usize, levels: usize, store: &[u32]) -> Plan
-    requires { ⌜ ((x : ℕ) × ((e : Expr) × ((r : Block) × (BlockAt (now buf) at (assign x e r) × ExprWithin (length (now store)) e)))) ⌝ }
-    ensures { λ p. ⌜ ((x : ℕ) (e : Expr) (r : Block) → BlockAt (now (buf .entry)) at (assign x e r) → ExprWithin (length (now (store .entry))) e → p ≡ planAssign levels at x e (now (store .entry))) ⌝ }
+// Rules 3 and 4: the value is stored, and the assignment's 16 bytes go.
+fn look_store(at: usize, levels: usize, variable: u32, value: u32) -> Plan
+    ensures { λ p. ⌜ p ≡ plan levels at Store variable value 0 16 ⌝ }
 {
-    let variable = buffer::get_u32(buf, at + 4);
-    let kind = buffer::get_u16(buf, at + 10);
-    let number = buffer::get_u32(buf, at + 12);
-    if kind == LITERAL {
-        return Plan {
-            rule: Rule::Store,
-            levels: levels,
-            at: at,
-            variable: variable,
-            value: number,
-            up: 0,
-            down: 16,
-        };
+    Plan {
+        rule: Rule::Store,
+        levels: levels,
+        at: at,
+        variable: variable,
+        value: value,
+        up: 0,
+        down: 16,
     }
-    let value = run::value::value_of(store, number);
-    if kind == VARIABLE {
-        return Plan {
-            rule: Rule::Store,
-            levels: levels,
-            at: at,
-            variable: variable,
-            value: value,
-            up: 0,
-            down: 16,
-        };
-    }
-    if kind == MINUS_ONE {
-        let less = run::value::minus_one(value);
-        return Plan {
-            rule: Rule::Literal,
-            levels: levels,
-            at: at,
-            variable: variable,
-            value: less,
-            up: 0,
-            down: 0,
-        };
-    }
-    if value == 4294967295 {
+}
+
+// Rule 5, of plus one: the literal, or over where it is too large.
+fn look_plus_one(at: usize, levels: usize, variable: u32, value: u32) -> Plan
+    ensures { λ p. ⌜ p ≡ planRaise levels at variable (suc value) (fitsWord (suc value)) ⌝ }
+{
+    if value == LARGEST_VALUE {
         return Plan {
             rule: Rule::Over,
             levels: levels,
@@ -110,6 +91,36 @@ fn look_assign(buf: &[u8], at: usize, levels: usize, store: &[u32]) -> Plan
         up: 0,
         down: 0,
     }
+}
+
+// The plan of an assignment at index at.
+fn look_assign(buf: &[u8], at: usize, levels: usize, store: &[u32]) -> Plan
+    requires { ⌜ ((x : ℕ) × ((e : Expr) × ((r : Block) × (BlockAt (now buf) at (assign x e r) × ExprWithin (length (now store)) e)))) ⌝ }
+    ensures { λ p. ⌜ ((x : ℕ) (e : Expr) (r : Block) → BlockAt (now (buf .entry)) at (assign x e r) → ExprWithin (length (now (store .entry))) e → p ≡ planAssign levels at x e (now (store .entry))) ⌝ }
+{
+    let variable = buffer::get_u32(buf, at + 4);
+    let kind = buffer::get_u16(buf, at + 10);
+    let number = buffer::get_u32(buf, at + 12);
+    if kind == LITERAL {
+        return look_store(at, levels, variable, number);
+    }
+    let value = run::value::value_of(store, number);
+    if kind == VARIABLE {
+        return look_store(at, levels, variable, value);
+    }
+    if kind == MINUS_ONE {
+        let less = run::value::minus_one(value);
+        return Plan {
+            rule: Rule::Literal,
+            levels: levels,
+            at: at,
+            variable: variable,
+            value: less,
+            up: 0,
+            down: 0,
+        };
+    }
+    look_plus_one(at, levels, variable, value)
 }
 
 // The value of a loop's bound, a literal or a variable.

@@ -8,14 +8,14 @@ use Rattle.buffer.proofs.get_u32.Reads as get-u32-reads
 use Rattle.run.proofs.value.minus_one.Reads as minus-one-reads
 use Rattle.run.proofs.value.value_of.Reads as value-of-reads
 use mathlib.Core.Path.{_≡_, refl, sym, ap, ap₂, _∙_}
-use Prim.Native.Nat.{ℕ, _+_, _<_}
+use Prim.Native.Nat.{ℕ, suc}
 use native.Mathlib.Omega.{arith}
-use Rattle.stepping.specs.declared.Rule.the-variants.{Store, Literal, Over}
-use Rattle.rules.specs.Store.{lookup, minusOne}
-use Rattle.stepping.specs.Plan.{plan}
+use Rattle.stepping.specs.declared.Rule.the-variants.{Store, Literal}
+use Rattle.rules.specs.Store.{fitsWord, lookup, minusOne}
+use Rattle.stepping.specs.Plan.{plan, planRaise}
 use Rattle.place.proofs.ProgramBytesLaws.{exprKind-range}
 use Rattle.record.specs.Program.{exprKind, exprNumber}
-use Rattle.stepping.proofs.LookLaws.{assign-read, plan-lit, plan-var, plan-dec, plan-over, plan-inc}
+use Rattle.stepping.proofs.LookLaws.{assign-read, plan-dec, plan-inc, plan-lit, plan-var}
 use Rattle.place.proofs.ProgramNumberLaws.{expr-variable}
 
 -- src/look.rt:47:41
@@ -54,13 +54,16 @@ get-u32-requires-2 c κs =
     let h = c .before .before .before .before .pre .1 .1 .1 .0 in
     omega (arith, (assign-read (c .before .before .before .before .pre .0) (c .before .before .before .before .pre .1 .0) (c .before .before .before .before .pre .1 .1 .0) h) .room)
 
--- src/look.rt:51:9
+look-store-requires : tie.Need-look-store-requires
+look-store-requires c κs = search needs
+
 returns : tie.Need-returns
 returns c =
     λ x e r h w.
     let v = assign-read x e r h in
-    ap₂ (λ (m n : ℕ). plan (c .before .before .before .before .before .before .args .levels) (c .before .before .before .before .before .before .args .at) Store m n 0 16) (c .before .before .before .get-u32 .ensures ∙ v .variable) (c .before .get-u322 .ensures ∙ v .number)
-    ∙ sym (plan-lit (c .before .before .before .before .before .before .args .levels) (c .before .before .before .before .before .before .args .at) x e (c .before .before .before .before .before .before .args .store .now) (sym (v .kind) ∙ sym (c .before .before .get-u16 .ensures .0) ∙ c .if1 .taken))
+    c .look-store .ensures
+    ∙ ap₂ (λ (m n : ℕ). plan (c .before .before .before .before .before .before .before .args .levels) (c .before .before .before .before .before .before .before .args .at) Store m n 0 16) (c .before .before .before .before .get-u32 .ensures ∙ v .variable) (c .before .before .get-u322 .ensures ∙ v .number)
+    ∙ sym (plan-lit (c .before .before .before .before .before .before .before .args .levels) (c .before .before .before .before .before .before .before .args .at) x e (c .before .before .before .before .before .before .before .args .store .now) (sym (v .kind) ∙ sym (c .before .before .before .get-u16 .ensures .0) ∙ c .before .if1 .taken))
 
 -- src/look.rt:53:9
 value-of-requires : tie.Need-value-of-requires
@@ -70,13 +73,16 @@ value-of-requires c κs =
     let n = c .before .get-u322 .ensures ∙ v .number in
     (omega (arith, w .0), omega (arith, w .1))
 
--- src/look.rt:55:9
+look-store-requires-2 : tie.Need-look-store-requires-2
+look-store-requires-2 c κs = search needs
+
 returns-2 : tie.Need-returns-2
 returns-2 c =
     λ x e r h w.
     let v = assign-read x e r h in
-    ap₂ (λ (m n : ℕ). plan (c .before .before .before .before .before .before .before .before .args .levels) (c .before .before .before .before .before .before .before .before .args .at) Store m n 0 16) (c .before .before .before .before .before .get-u32 .ensures ∙ v .variable) (c .before .value-of .ensures ∙ ap (lookup (c .before .before .before .before .before .before .before .before .args .store .now)) (c .before .before .before .get-u322 .ensures ∙ v .number))
-    ∙ sym (plan-var (c .before .before .before .before .before .before .before .before .args .levels) (c .before .before .before .before .before .before .before .before .args .at) x e (c .before .before .before .before .before .before .before .before .args .store .now) (sym (v .kind) ∙ sym (c .before .before .before .before .get-u16 .ensures .0) ∙ c .if2 .taken))
+    c .look-store2 .ensures
+    ∙ ap₂ (λ (m n : ℕ). plan (c .before .before .before .before .before .before .before .before .before .args .levels) (c .before .before .before .before .before .before .before .before .before .args .at) Store m n 0 16) (c .before .before .before .before .before .before .get-u32 .ensures ∙ v .variable) (c .before .before .value-of .ensures ∙ ap (lookup (c .before .before .before .before .before .before .before .before .before .args .store .now)) (c .before .before .before .before .get-u322 .ensures ∙ v .number))
+    ∙ sym (plan-var (c .before .before .before .before .before .before .before .before .before .args .levels) (c .before .before .before .before .before .before .before .before .before .args .at) x e (c .before .before .before .before .before .before .before .before .before .args .store .now) (sym (v .kind) ∙ sym (c .before .before .before .before .before .get-u16 .ensures .0) ∙ c .before .if2 .taken))
 
 -- src/look.rt:58:13
 minus-one-requires : tie.Need-minus-one-requires
@@ -91,30 +97,18 @@ returns-3 c =
     (c .minus-one .ensures ∙ ap minusOne (c .before .before .before .value-of .ensures ∙ ap (lookup (c .before .before .before .before .before .before .before .before .before .before .args .store .now)) (c .before .before .before .before .before .get-u322 .ensures ∙ v .number)))
     ∙ sym (plan-dec (c .before .before .before .before .before .before .before .before .before .before .args .levels) (c .before .before .before .before .before .before .before .before .before .before .args .at) x e (c .before .before .before .before .before .before .before .before .before .before .args .store .now) (sym (v .kind) ∙ sym (c .before .before .before .before .before .before .get-u16 .ensures .0) ∙ c .before .if3 .taken))
 
--- src/look.rt:62:9
+look-plus-one-requires : tie.Need-look-plus-one-requires
+look-plus-one-requires c κs = search needs
+
 returns-4 : tie.Need-returns-4
 returns-4 c =
     λ x e r h w.
     let v = assign-read x e r h in
     let k : exprKind e ≡ 18 = omega (arith, v .kind, c .before .before .before .before .before .before .get-u16 .ensures .0, c .before .before .before .before .if1 .left, c .before .before .if2 .left, c .before .if3 .left, exprKind-range e) in
     let n : c .before .before .before .value-of .result ≡ lookup (c .before .before .before .before .before .before .before .before .before .before .args .store .now) (exprNumber e) = c .before .before .before .value-of .ensures ∙ ap (lookup (c .before .before .before .before .before .before .before .before .before .before .args .store .now)) (c .before .before .before .before .before .get-u322 .ensures ∙ v .number) in
-    ap (λ (m : ℕ). plan (c .before .before .before .before .before .before .before .before .before .before .args .levels) (c .before .before .before .before .before .before .before .before .before .before .args .at) Over m 0 0 0) (c .before .before .before .before .before .before .before .get-u32 .ensures ∙ v .variable)
-    ∙ sym (plan-over (c .before .before .before .before .before .before .before .before .before .before .args .levels) (c .before .before .before .before .before .before .before .before .before .before .args .at) x e (c .before .before .before .before .before .before .before .before .before .before .args .store .now) k (sym n ∙ c .if4 .taken))
-
--- src/look.rt:64:84
-add-t17 : tie.Need-add-t17
-add-t17 c = search needs
-
--- src/look.rt:43:1
-returns-5 : tie.Need-returns-5
-returns-5 c =
-    λ x e r h w.
-    let v = assign-read x e r h in
-    let k : exprKind e ≡ 18 = omega (arith, v .kind, c .before .before .before .before .before .before .get-u16 .ensures .0, c .before .before .before .before .if1 .left, c .before .before .if2 .left, c .before .if3 .left, exprKind-range e) in
-    let n : c .before .before .before .value-of .result ≡ lookup (c .before .before .before .before .before .before .before .before .before .before .args .store .now) (exprNumber e) = c .before .before .before .value-of .ensures ∙ ap (lookup (c .before .before .before .before .before .before .before .before .before .before .args .store .now)) (c .before .before .before .before .before .get-u322 .ensures ∙ v .number) in
-    let f : c .before .before .before .value-of .result + 1 < 4294967296 = omega (arith, c .if4 .left) in
-    ap (λ (m : ℕ). plan (c .before .before .before .before .before .before .before .before .before .before .args .levels) (c .before .before .before .before .before .before .before .before .before .before .args .at) Literal m (c .before .before .before .value-of .result + 1) 0 0) (c .before .before .before .before .before .before .before .get-u32 .ensures ∙ v .variable)
-    ∙ sym (plan-inc (c .before .before .before .before .before .before .before .before .before .before .args .levels) (c .before .before .before .before .before .before .before .before .before .before .args .at) x e (c .before .before .before .before .before .before .before .before .before .before .args .store .now) k (c .before .before .before .value-of .result + 1) (omega arith) f)
+    c .look-plus-one .ensures
+    ∙ ap₂ (λ (m y : ℕ). planRaise (c .before .before .before .before .before .before .before .before .before .before .args .levels) (c .before .before .before .before .before .before .before .before .before .before .args .at) m (suc y) (fitsWord (suc y))) (c .before .before .before .before .before .before .before .get-u32 .ensures ∙ v .variable) n
+    ∙ sym (plan-inc (c .before .before .before .before .before .before .before .before .before .before .args .levels) (c .before .before .before .before .before .before .before .before .before .before .args .at) x e (c .before .before .before .before .before .before .before .before .before .before .args .store .now) k)
 
 pub look-assign-spec : {M : Type 1} → statement M
 look-assign-spec =
@@ -126,11 +120,12 @@ look-assign-spec =
     get-u16-requires
     add-get-u32-2
     get-u32-requires-2
+    look-store-requires
     returns
     value-of-requires
+    look-store-requires-2
     returns-2
     minus-one-requires
     returns-3
-    returns-4
-    add-t17
-    returns-5)
+    look-plus-one-requires
+    returns-4)
