@@ -22,7 +22,8 @@ use Rattle.run.specs.RunAnswer.{RunAnswer}
 use Rattle.stepper.specs.RunStepper.{runStepper}
 use Rattle.term.specs.Calls.{substituteCall, tooShort, translateCall, translateRows, translated}
 use Rattle.term.proofs.CallLaws.{translate-number}
-use Rattle.report.specs.Line.{inputRows, kOfInput, line, lineBy, lineRows, programBudget, programBuffer, ranLine, recordOf, reducerFrom, reducerRun, refusedLine, runsLine, saidLength, stepperRun, storeOf, substitutedFrom, termOfInput, valuesIn}
+use Rattle.print.specs.Words.{ranLine, refusedLine}
+use Rattle.report.specs.Line.{inputRows, kOfInput, line, lineBy, lineRows, programBudget, programBuffer, recordOf, reducerFrom, reducerRun, runsLine, saidLength, stepperRun, storeOf, substitutedFrom, termOfInput, valuesIn}
 use Rattle.report.specs.Reads.{Reads, RecordRead, WholeRecord}
 use Rattle.report.proofs.InputLaws.{values-within}
 use Rattle.report.proofs.InputRowsLaws.{InputChecked, record-buffer, row6, rows-behind, said-read}

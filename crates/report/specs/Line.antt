@@ -8,11 +8,9 @@ use Rattle.buffer.specs.LittleEndian.{val}
 use Rattle.record.specs.Answers.{Wrote, padded}
 use Rattle.record.specs.Rows.{Row, firstRow, kOf, programRows, row}
 use Rattle.reducer.specs.RunReducer.{ReducerCall, runReducer}
-use Rattle.rules.specs.Run.{Outcome, isFinished, isOver, noRoom, refused, spent}
-use Rattle.run.specs.RunAnswer.{RunAnswer}
 use Rattle.stepper.specs.RunStepper.{StepperCall, runStepper}
 use Rattle.term.specs.Calls.{substituteCall, tooShort, translateCall, translated}
-use Rattle.report.specs.Decimal.{decimal}
+use Rattle.print.specs.Words.{ranLine, refusedLine}
 
 -- THE INPUT: a program record, whose first two bytes say how long it is, and then its k values, 4 bytes each
 
@@ -72,37 +70,11 @@ inputRows input more =
 abbrev pub lineRows : List ℕ → List Row
 lineRows input = inputRows input (row 10 (tooShort (replicate programBuffer 0) (translated (recordOf input) (saidLength input))) ∷ [])
 
--- THE LINE, in ASCII, with its end of line
+-- THE LINE
 
--- `finished`, `over`, `noroom`, `spent`, `refused`.
-unfoldable pub outcomeWord : Outcome → List ℕ
-outcomeWord isFinished = 102 ∷ 105 ∷ 110 ∷ 105 ∷ 115 ∷ 104 ∷ 101 ∷ 100 ∷ []
-outcomeWord isOver = 111 ∷ 118 ∷ 101 ∷ 114 ∷ []
-outcomeWord noRoom = 110 ∷ 111 ∷ 114 ∷ 111 ∷ 111 ∷ 109 ∷ []
-outcomeWord spent = 115 ∷ 112 ∷ 101 ∷ 110 ∷ 116 ∷ []
-outcomeWord refused = 114 ∷ 101 ∷ 102 ∷ 117 ∷ 115 ∷ 101 ∷ 100 ∷ []
-
--- A space, and then the number.
-unfoldable pub spaced : ℕ → List ℕ
-spaced n = 32 ∷ decimal n
-
-unfoldable pub spacedAll : List ℕ → List ℕ
-spacedAll [] = []
-spacedAll (v ∷ vs) = spaced v ++ spacedAll vs
-
--- The stepper's outcome and steps, the reducer's, the stepper's store.
-unfoldable pub ranLine : RunAnswer → RunAnswer → List ℕ → List ℕ
-ranLine s r store =
-    outcomeWord (s .outcome) ++ (spaced (s .steps) ++ (32 ∷ (outcomeWord (r .outcome)
-    ++ (spaced (r .steps) ++ (spacedAll store ++ (10 ∷ []))))))
-
--- The same of two runs.
+-- The line of the two runs: their answers, and the store that the stepper left.
 abbrev pub runsLine : StepperCall → ReducerCall → List ℕ
 runsLine s r = ranLine (s .answer) (r .answer) (s .store)
-
--- The word and the number.
-unfoldable pub refusedLine : ℕ → List ℕ
-refusedLine n = outcomeWord refused ++ (spaced n ++ (10 ∷ []))
 
 unfoldable pub lineBy : ℕ → List ℕ → List ℕ
 lineBy zero input = runsLine (stepperRun input) (reducerRun input)

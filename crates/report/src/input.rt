@@ -46,8 +46,7 @@ pub fn check_input(a: &[u8], total: usize) -> Checked
     checked
 }
 
-// 4 bytes each.
-
+// The values are 4 bytes each.
 pub fn read_values(bytes: &[u8], store: &mut [u32])
     requires { ⌜ 4 * length (now store) ≤ length (now bytes) ⌝ }
     ensures { λ _. ⌜ now (store .exit) ≡ valuesIn (length (now (store .entry))) (now (bytes .entry)) ⌝ }

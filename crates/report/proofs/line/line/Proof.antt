@@ -8,7 +8,7 @@ use Rattle.buffer.proofs.get_u16.Reads as get-u16-reads
 use Rattle.buffer.proofs.zero.Reads as zero-reads
 use Rattle.report.proofs.input.check_input.Reads as check-input-reads
 use Rattle.report.proofs.line.run_both.Reads as run-both-reads
-use Rattle.report.proofs.print.put_refused.Reads as put-refused-reads
+use Rattle.print.proofs.put_refused.Reads as put-refused-reads
 use Rattle.term.proofs.translate.translate.Reads as translate-reads
 use native.Mathlib.Omega.{arith}
 use mathlib.Core.Path.{_∙_, _≡_, ap, sym}

@@ -5,7 +5,7 @@ use Rattle.report.proofs.line.run_both.Tie as tie
 use Rattle.report.proofs.line.run_both.Reads as reads
 use Rattle.report.proofs.line.run_both.Lts as lts
 use Rattle.report.proofs.input.read_values.Reads as read-values-reads
-use Rattle.report.proofs.print.put_ran.Reads as put-ran-reads
+use Rattle.print.proofs.put_ran.Reads as put-ran-reads
 use Rattle.reducer.proofs.run_reducer.Reads as run-reducer-reads
 use Rattle.stepper.proofs.run_stepper.Reads as run-stepper-reads
 use Rattle.term.proofs.substitute.substitute.Reads as substitute-reads

@@ -1,17 +1,17 @@
 -- The digits of what is left of n, put in front of those written, give n's.
-use Rattle.report.proofs.print.put_decimal.Statement.{statement}
-use Rattle.report.proofs.print.put_decimal.Tie as tie
-use Rattle.report.proofs.print.put_decimal.Reads as reads
-use Rattle.report.proofs.print.put_decimal.Lts as lts
-use Rattle.report.proofs.print.digits.Reads as digits-reads
+use Rattle.print.proofs.put_decimal.Statement.{statement}
+use Rattle.print.proofs.put_decimal.Tie as tie
+use Rattle.print.proofs.put_decimal.Reads as reads
+use Rattle.print.proofs.put_decimal.Lts as lts
+use Rattle.print.proofs.digits.Reads as digits-reads
 use native.Mathlib.Omega.{arith}
 use mathlib.Core.Path.{_≡_, refl, _∙_}
 use Prim.Native.Nat.{_+_, _<_, _/_}
 use lib.ListN.{length, length-set}
 use Rattle.buffer.specs.Slice.{put}
-use Rattle.report.specs.Decimal.{decimal}
-use Rattle.report.proofs.DecimalLaws.{digits-large, digits-small, digits-some, digits-word}
-use Rattle.report.proofs.PrintLaws.{digit-last, digit-turn}
+use Rattle.print.specs.Decimal.{decimal}
+use Rattle.print.proofs.DecimalLaws.{digits-large, digits-small, digits-some, digits-word}
+use Rattle.print.proofs.PrintLaws.{digit-last, digit-turn}
 use borrow.Author.Needs.{needs}
 
 abbrev Inv-loop : tie.InvT-loop

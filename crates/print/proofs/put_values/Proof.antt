@@ -1,17 +1,17 @@
 -- The values from number i on, put behind those written, give all.
-use Rattle.report.proofs.print.put_values.Statement.{statement}
-use Rattle.report.proofs.print.put_values.Tie as tie
-use Rattle.report.proofs.print.put_values.Reads as reads
-use Rattle.report.proofs.print.put_values.Lts as lts
-use Rattle.report.proofs.print.put_spaced.Reads as put-spaced-reads
+use Rattle.print.proofs.put_values.Statement.{statement}
+use Rattle.print.proofs.put_values.Tie as tie
+use Rattle.print.proofs.put_values.Reads as reads
+use Rattle.print.proofs.put_values.Lts as lts
+use Rattle.print.proofs.put_spaced.Reads as put-spaced-reads
 use native.Mathlib.Omega.{arith}
 use borrow.Author.Needs.{needs}
 use mathlib.Core.Path.{_≡_, _∙_, ap, refl, sym}
 use Prim.Native.Nat.{_+_, _*_, _-_, _≤_}
 use lib.ListN.{drop, length}
 use Rattle.buffer.specs.Slice.{put}
-use Rattle.report.specs.Line.{spaced, spacedAll}
-use Rattle.report.proofs.PrintLaws.{values-done, values-length, values-none, values-turn}
+use Rattle.print.specs.Words.{spaced, spacedAll}
+use Rattle.print.proofs.PrintLaws.{values-done, values-length, values-none, values-turn}
 
 abbrev Inv-loop : tie.InvT-loop
 Inv-loop out₀ at store place₀ i₀ out place i =

@@ -1,12 +1,12 @@
 -- The end of line stands behind the word and the number.
 use borrow.Author.Needs.{needs}
-use Rattle.report.proofs.print.put_refused.Statement.{statement}
-use Rattle.report.proofs.print.put_refused.Tie as tie
-use Rattle.report.proofs.print.put_refused.Reads as reads
-use Rattle.report.proofs.print.put_refused.Lts as lts
-use Rattle.report.proofs.print.put_run.Reads as put-run-reads
+use Rattle.print.proofs.put_refused.Statement.{statement}
+use Rattle.print.proofs.put_refused.Tie as tie
+use Rattle.print.proofs.put_refused.Reads as reads
+use Rattle.print.proofs.put_refused.Lts as lts
+use Rattle.print.proofs.put_run.Reads as put-run-reads
 use native.Mathlib.Omega.{arith}
-use Rattle.report.proofs.PrintLaws.{refused-put}
+use Rattle.print.proofs.PrintLaws.{refused-put}
 
 -- src/print.rt:100:9
 put-run-requires : tie.Need-put-run-requires

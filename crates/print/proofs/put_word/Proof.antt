@@ -1,13 +1,13 @@
 -- The whole of the word is copied.
 use borrow.Author.Needs.{needs}
-use Rattle.report.proofs.print.put_word.Statement.{statement}
-use Rattle.report.proofs.print.put_word.Tie as tie
-use Rattle.report.proofs.print.put_word.Reads as reads
-use Rattle.report.proofs.print.put_word.Lts as lts
+use Rattle.print.proofs.put_word.Statement.{statement}
+use Rattle.print.proofs.put_word.Tie as tie
+use Rattle.print.proofs.put_word.Reads as reads
+use Rattle.print.proofs.put_word.Lts as lts
 use Rattle.moves.proofs.copy.Reads as copy-reads
 use mathlib.Core.Path.{_∙_, ap, refl}
 use Rattle.buffer.specs.Slice.{put}
-use Rattle.report.proofs.PrintLaws.{part-whole}
+use Rattle.print.proofs.PrintLaws.{part-whole}
 
 -- src/print.rt:67:5
 copy-requires : tie.Need-copy-requires

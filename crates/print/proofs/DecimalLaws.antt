@@ -8,7 +8,7 @@ use lib.Dec.{ltb}
 use lib.ListN.{length, length-append}
 use native.Mathlib.Nat.{pow-succ'}
 use native.Mathlib.Omega.{arith}
-use Rattle.report.specs.Decimal.{decimal, decimalBy, decimalValue, decimalWithin, digit}
+use Rattle.print.specs.Decimal.{decimal, decimalBy, decimalValue, decimalWithin, digit}
 
 decimal-enough : (f g n : ℕ) → n < f → n < g → decimalWithin f n ≡ decimalWithin g n
 unfolding decimalWithin

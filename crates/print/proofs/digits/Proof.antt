@@ -1,14 +1,14 @@
 -- Each division takes one digit off: the turns made and the digits left are one more than the digits of n.
-use Rattle.report.proofs.print.digits.Statement.{statement}
-use Rattle.report.proofs.print.digits.Tie as tie
-use Rattle.report.proofs.print.digits.Reads as reads
-use Rattle.report.proofs.print.digits.Lts as lts
+use Rattle.print.proofs.digits.Statement.{statement}
+use Rattle.print.proofs.digits.Tie as tie
+use Rattle.print.proofs.digits.Reads as reads
+use Rattle.print.proofs.digits.Lts as lts
 use native.Mathlib.Omega.{arith}
 use mathlib.Core.Path.{_≡_}
 use Prim.Native.Nat.{_+_}
 use lib.ListN.{length}
-use Rattle.report.specs.Decimal.{decimal}
-use Rattle.report.proofs.DecimalLaws.{digits-large, digits-small, digits-some, digits-word}
+use Rattle.print.specs.Decimal.{decimal}
+use Rattle.print.proofs.DecimalLaws.{digits-large, digits-small, digits-some, digits-word}
 
 abbrev Inv-loop : tie.InvT-loop
 Inv-loop n left₀ count₀ left count = count + length (decimal left) ≡ length (decimal n) + 1

@@ -1,15 +1,15 @@
 -- The word and the number are two neighbouring stores.
 use borrow.Author.Needs.{needs}
-use Rattle.report.proofs.print.put_run.Statement.{statement}
-use Rattle.report.proofs.print.put_run.Tie as tie
-use Rattle.report.proofs.print.put_run.Reads as reads
-use Rattle.report.proofs.print.put_run.Lts as lts
-use Rattle.report.proofs.print.put_outcome.Reads as put-outcome-reads
-use Rattle.report.proofs.print.put_spaced.Reads as put-spaced-reads
+use Rattle.print.proofs.put_run.Statement.{statement}
+use Rattle.print.proofs.put_run.Tie as tie
+use Rattle.print.proofs.put_run.Reads as reads
+use Rattle.print.proofs.put_run.Lts as lts
+use Rattle.print.proofs.put_outcome.Reads as put-outcome-reads
+use Rattle.print.proofs.put_spaced.Reads as put-spaced-reads
 use native.Mathlib.Omega.{arith}
 use lib.ListN.{length-append}
 use Rattle.buffer.proofs.StoresLaws.{stores-2}
-use Rattle.report.specs.Line.{outcomeWord, spaced}
+use Rattle.print.specs.Words.{outcomeWord, spaced}
 use Rattle.run.specs.Represents.{asOutcome}
 
 -- src/print.rt:91:9

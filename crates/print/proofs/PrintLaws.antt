@@ -12,9 +12,9 @@ use Rattle.buffer.proofs.SliceLaws.{length-put, put-nil, put-put, put-put-front
 use Rattle.buffer.proofs.StoresLaws.{stores-2, stores-4}
 use Rattle.rules.specs.Run.{refused}
 use Rattle.run.specs.RunAnswer.{RunAnswer}
-use Rattle.report.specs.Decimal.{decimal, digit}
-use Rattle.report.specs.Line.{outcomeWord, ranLine, refusedLine, spaced, spacedAll}
-use Rattle.report.proofs.DecimalLaws.{decimal-large, decimal-small, digits-large, digits-small}
+use Rattle.print.specs.Decimal.{decimal, digit}
+use Rattle.print.specs.Words.{outcomeWord, ranLine, refusedLine, spaced, spacedAll}
+use Rattle.print.proofs.DecimalLaws.{decimal-large, decimal-small, digits-large, digits-small}
 
 -- The last digit of n is written, those of n / 10 in front of it are still to be.
 pub digit-turn : (l : List ℕ) (at place n : ℕ) → 10 ≤ n → place + 1 ≡ at + length (decimal n) → place < length l

@@ -1,15 +1,15 @@
 -- Five neighbouring stores, the end of line last.
 use borrow.Author.Needs.{needs}
-use Rattle.report.proofs.print.put_ran.Statement.{statement}
-use Rattle.report.proofs.print.put_ran.Tie as tie
-use Rattle.report.proofs.print.put_ran.Reads as reads
-use Rattle.report.proofs.print.put_ran.Lts as lts
-use Rattle.report.proofs.print.put_run.Reads as put-run-reads
-use Rattle.report.proofs.print.put_values.Reads as put-values-reads
+use Rattle.print.proofs.put_ran.Statement.{statement}
+use Rattle.print.proofs.put_ran.Tie as tie
+use Rattle.print.proofs.put_ran.Reads as reads
+use Rattle.print.proofs.put_ran.Lts as lts
+use Rattle.print.proofs.put_run.Reads as put-run-reads
+use Rattle.print.proofs.put_values.Reads as put-values-reads
 use native.Mathlib.Omega.{arith}
 use mathlib.Core.Path.{_≡_, _∙_}
 use lib.ListN.{length, length-set}
-use Rattle.report.proofs.PrintLaws.{ran-put}
+use Rattle.print.proofs.PrintLaws.{ran-put}
 use Rattle.run.specs.Represents.{asRunAnswer}
 
 -- src/print.rt:112:9

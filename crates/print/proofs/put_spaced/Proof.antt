@@ -1,14 +1,14 @@
 -- The space and the digits are two neighbouring stores.
 use borrow.Author.Needs.{needs}
-use Rattle.report.proofs.print.put_spaced.Statement.{statement}
-use Rattle.report.proofs.print.put_spaced.Tie as tie
-use Rattle.report.proofs.print.put_spaced.Reads as reads
-use Rattle.report.proofs.print.put_spaced.Lts as lts
-use Rattle.report.proofs.print.put_decimal.Reads as put-decimal-reads
+use Rattle.print.proofs.put_spaced.Statement.{statement}
+use Rattle.print.proofs.put_spaced.Tie as tie
+use Rattle.print.proofs.put_spaced.Reads as reads
+use Rattle.print.proofs.put_spaced.Lts as lts
+use Rattle.print.proofs.put_decimal.Reads as put-decimal-reads
 use native.Mathlib.Omega.{arith}
 use mathlib.Core.Path.{_∙_}
 use lib.ListN.{length-set}
-use Rattle.report.proofs.PrintLaws.{length-spaced, spaced-put}
+use Rattle.print.proofs.PrintLaws.{length-spaced, spaced-put}
 
 -- src/print.rt:46:5
 slice-write-out : tie.Need-slice-write-out

@@ -1,13 +1,13 @@
 -- Each arm knows its case, and there the word computes.
 use borrow.Author.Needs.{needs}
-use Rattle.report.proofs.print.put_outcome.Statement.{statement}
-use Rattle.report.proofs.print.put_outcome.Tie as tie
-use Rattle.report.proofs.print.put_outcome.Reads as reads
-use Rattle.report.proofs.print.put_outcome.Lts as lts
-use Rattle.report.proofs.print.put_word.Reads as put-word-reads
+use Rattle.print.proofs.put_outcome.Statement.{statement}
+use Rattle.print.proofs.put_outcome.Tie as tie
+use Rattle.print.proofs.put_outcome.Reads as reads
+use Rattle.print.proofs.put_outcome.Lts as lts
+use Rattle.print.proofs.put_word.Reads as put-word-reads
 use native.Mathlib.Omega.{arith}
 use mathlib.Core.Path.{refl}
-use Rattle.report.specs.Line.{outcomeWord}
+use Rattle.print.specs.Words.{outcomeWord}
 
 -- src/print.rt:76:39
 enum-told : tie.Need-enum-told
