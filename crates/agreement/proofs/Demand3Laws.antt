@@ -23,7 +23,7 @@ use Rattle.rules.specs.Syntax.{Answer, Atom, Block, Config, assign, empty, fini
 use Rattle.rules.specs.Translation.{all, translate}
 use Rattle.run.specs.RunAnswer.{accepted}
 use Rattle.term.specs.Calls.{substituteCall, substituted, translateCall}
-use Rattle.record.proofs.AnswerLaws.{take-padded}
+use Rattle.record.proofs.PaddedLaws.{take-padded}
 use Rattle.record.proofs.HeldLaws.{take-fits}
 use Rattle.record.proofs.HoldingLaws.{check-program, checked-holds, program-size, program-words, term-words}
 use Rattle.reducer.proofs.RunReducerLaws.{reducer-number, reducer-passes, reducer-takes}

@@ -12,7 +12,8 @@ use Rattle.record.specs.Answers.{padded}
 use Rattle.record.specs.Header.{encodeTerm}
 use Rattle.record.specs.Holding.{TermIn}
 use Rattle.record.specs.Term.{encodeTermRecord, termSize}
-use Rattle.record.proofs.ContentsLaws.{encodeTerm-parts, length-termHeader, padded-zeros, termHeader}
+use Rattle.record.proofs.ContentsLaws.{encodeTerm-parts, length-termHeader, termHeader}
+use Rattle.record.proofs.PaddedLaws.{padded-zeros}
 use Rattle.record.proofs.HeaderLaws.{length-encodeTerm}
 use Rattle.record.proofs.HoldingLaws.{term-size, term-words}
 use Rattle.place.specs.TermView.{TermAt}

@@ -1,47 +1,10 @@
--- Laws of the forms of the answers: accepted, refused, and the zeros behind a record.
-use Prim.Native.Nat.{_+_, _-_, suc, zero, ℕ, _≤_}
-use mathlib.Core.Path.{ap, refl, sym, _∙_, _≡_}
-use mathlib.Core.List.{_++_, List}
-use lib.ListN.{drop, length, length-append, length-replicate, replicate, take}
-use lib.Seq.{drop-append-add, drop-at, take-at}
-use native.Mathlib.Omega.{arith}
-use Rattle.buffer.specs.Slice.{zeros}
-use Rattle.buffer.proofs.SliceLaws.{drop-zeros}
+-- Laws of the forms of the answers: accepted, refused.
+use Prim.Native.Nat.{suc, zero, ℕ}
+use mathlib.Core.Path.{refl, _≡_}
+use mathlib.Core.List.{List}
+use lib.ListN.{length}
 use Rattle.record.specs.Answers.{checkProgram, checkProgramRows, checkTerm, checkTermRows, checkedBy, padded, storedBy, wroteBy}
 use Rattle.record.specs.Rows.{firstRow, kOf}
-
--- ZEROS BEHIND A RECORD
-
-pub take-padded : (n : ℕ) (bytes : List ℕ) → take (length bytes) (padded n bytes) ≡ bytes
-unfolding padded
-take-padded n bytes = take-at bytes (replicate (n - length bytes) 0) (length bytes) refl
-
-pub length-padded : (n : ℕ) (bytes : List ℕ) → length bytes ≤ n → length (padded n bytes) ≡ n
-unfolding padded
-length-padded n bytes h = length-append bytes (replicate (n - length bytes) 0) ∙ omega (arith, length-replicate {A = ℕ} (n - length bytes) 0)
-
-pub fits-padded : (n : ℕ) (bytes : List ℕ) → length bytes ≤ length (padded n bytes)
-unfolding padded
-fits-padded n bytes = omega (arith, length-append bytes (replicate (n - length bytes) 0))
-
--- every byte behind the record, up to the buffer's end, is zero
-pub zero-padded : (n : ℕ) (bytes : List ℕ) → drop (length bytes) (padded n bytes) ≡ replicate (n - length bytes) 0
-unfolding padded
-zero-padded n bytes = drop-at bytes (replicate (n - length bytes) 0) (length bytes) refl
-
--- the same as the zeros that the code writes
-pub padded-zeros : (n m : ℕ) (bytes : List ℕ) → n - length bytes ≡ m → padded n bytes ≡ bytes ++ zeros m
-unfolding padded zeros
-padded-zeros n m bytes e = rw e
-
-pub drop-padded : (n m : ℕ) (bytes : List ℕ) → length bytes ≤ m → drop m (padded n bytes) ≡ zeros (n - m)
-drop-padded n m bytes h =
-    let a : ℕ = n - length bytes in
-    let b : ℕ = m - length bytes in
-    let e : length bytes + b ≡ m = omega arith in
-    let f : a - b ≡ n - m = omega arith in
-    ap (drop m) (padded-zeros n a bytes refl) ∙ ap (λ (y : ℕ). drop y (bytes ++ zeros a)) (sym e) ∙ drop-append-add bytes (zeros a) b
-    ∙ drop-zeros b a ∙ ap zeros f
 
 -- THE CHECKER
 

@@ -1,14 +1,12 @@
 -- A term's record in its two parts, header and contents, and a buffer that holds it in three.
-use Prim.Native.Nat.{_+_, _-_, ℕ}
+use Prim.Native.Nat.{_+_, ℕ}
 use mathlib.Core.Path.{ap, refl, _∙_, _≡_}
 use mathlib.Core.List.{_++_, List, append-assoc}
 use lib.ListN.{length, length-append}
 use native.Mathlib.Omega.{arith}
 use Rattle.buffer.specs.LittleEndian.{le}
-use Rattle.buffer.specs.Slice.{zeros}
 use Rattle.rules.specs.Syntax.{Term}
 use Rattle.buffer.proofs.LittleEndianLaws.{length-le}
-use Rattle.record.specs.Answers.{padded}
 use Rattle.record.specs.Header.{encodeTerm, headed, termBytes}
 use Rattle.record.specs.Record.{encodeRecord}
 use Rattle.record.specs.Term.{encodeTermRecord, termSize}
@@ -40,7 +38,3 @@ pub encodeTerm-parts : (k : ℕ) (t : Term) → encodeTerm k t ≡ termHeader k 
 unfolding termHeader encodeTerm
 encodeTerm-parts k t =
     headed-parts 40 k (termBytes t) (4 + termSize t) (length-termBytes t) ∙ ap (λ (y : List ℕ). header 40 k (4 + termSize t) ++ y) (termBytes-record t)
-
-pub padded-zeros : (n m : ℕ) (bytes : List ℕ) → n - length bytes ≡ m → padded n bytes ≡ bytes ++ zeros m
-unfolding padded zeros
-padded-zeros n m bytes e = rw e refl

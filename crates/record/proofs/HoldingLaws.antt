@@ -26,7 +26,8 @@ use Rattle.record.specs.Holding.{ProgramIn, TermIn}
 use Rattle.record.specs.Program.{BlockWords}
 use Rattle.record.specs.Rows.{NoRow, Row, badBlock, badBuffer, badHeader, badStore, badTerm, blockOf, blockOutside, finishedTerm, firstRow, kOf, openTerm, programOf, programRows, row, termOf, termOutside, termRows, theTermOf, unfinished}
 use Rattle.record.specs.Term.{TermWords}
-use Rattle.record.proofs.AnswerLaws.{checked-accepted, checked-number, fits-padded, take-padded}
+use Rattle.record.proofs.AnswerLaws.{checked-accepted, checked-number}
+use Rattle.record.proofs.PaddedLaws.{fits-padded, take-padded}
 use Rattle.record.proofs.HeaderLaws.{blockIn-bytes, blockIn-sound, kField-headed, length-blockBytes, length-termBytes, termIn-bytes, termIn-sound}
 use Rattle.record.proofs.HeldLaws.{buffer-good, bytes-contents, good-buffer, good-header, good-k, good-store, header-good, header-whole, held-contents, held-header, held-k, held-size, held-used, k-good}
 use Rattle.record.proofs.RowLaws.{first-none, first-skips, holds-some, is-some, isNone-some, none-first, not-intro, or-intro, orElse-some}

@@ -16,7 +16,7 @@ use Rattle.rules.specs.Sound.{SoundTerm}
 use Rattle.rules.specs.Store.{fitsWord}
 use Rattle.rules.specs.Syntax.{Term}
 use Rattle.run.specs.RunAnswer.{refusal, roomFor}
-use Rattle.record.proofs.AnswerLaws.{length-padded}
+use Rattle.record.proofs.PaddedLaws.{length-padded}
 use Rattle.record.proofs.HeldLaws.{good-buffer}
 use Rattle.record.proofs.HoldingLaws.{padded-term, term-is, term-k, term-open, term-passes, term-size, term-used}
 use Rattle.record.proofs.RowLaws.{first-none, none-first, not-intro}

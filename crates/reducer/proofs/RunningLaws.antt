@@ -10,9 +10,8 @@ use Rattle.buffer.specs.Slice.{put, zeros}
 use Rattle.record.specs.Answers.{padded}
 use Rattle.record.specs.Header.{encodeTerm}
 use Rattle.record.specs.Holding.{TermIn}
-use Rattle.record.proofs.AnswerLaws.{length-padded}
+use Rattle.record.proofs.PaddedLaws.{cleared-padded, length-padded}
 use Rattle.record.proofs.HoldingLaws.{padded-term, term-size}
-use Rattle.record.proofs.PaddedLaws.{cleared-padded}
 use Rattle.redex.specs.Plan.{planOf}
 use Rattle.redex.specs.declared.Plan.{Plan}
 use Rattle.redex.specs.declared.Rule.{Rule}

@@ -25,7 +25,7 @@ use Rattle.place.specs.TermView.{TermAt}
 use Rattle.place.specs.Whole.{relengthAll, termFront}
 use Rattle.filling.specs.Ranged.{RangedTerm}
 use Rattle.filling.proofs.RangedLaws.{sound-ranged}
-use Rattle.record.proofs.AnswerLaws.{padded-zeros}
+use Rattle.record.proofs.PaddedLaws.{padded-zeros}
 use Rattle.record.proofs.HeaderLaws.{length-encodeTerm}
 use Rattle.record.proofs.WordsLaws.{termSize-substitute}
 use Rattle.rules.proofs.FreeVariablesLaws.{closed-nums}

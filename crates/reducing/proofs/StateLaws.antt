@@ -18,7 +18,7 @@ use Rattle.place.specs.Nesting.{around, rests}
 use Rattle.place.specs.TermPath.{redex, termPath, terms}
 use Rattle.place.specs.TermView.{TermAt}
 use Rattle.place.specs.Whole.{termFront}
-use Rattle.record.proofs.AnswerLaws.{drop-padded, length-padded}
+use Rattle.record.proofs.PaddedLaws.{drop-padded, length-padded}
 use Rattle.record.proofs.HoldingLaws.{padded-term, term-size}
 use Rattle.rules.proofs.SoundTermLaws.{SoundAnswer, sound-reduce}
 use Rattle.rules.proofs.StoreLaws.{word-limit}

@@ -13,7 +13,8 @@ use Rattle.buffer.specs.Slice.{part, put, zeros}
 use Rattle.buffer.proofs.SliceLaws.{length-zeros}
 use Rattle.record.specs.Answers.{Checked, Wrote, checkProgramRows, checkedBy, padded, wroteBy}
 use Rattle.record.specs.Rows.{NoRow, Row, badBlock, badBuffer, badHeader, badK, blockOutside, firstRow, programRows, row, tooLong}
-use Rattle.record.proofs.AnswerLaws.{checked-accepted, checked-number, padded-zeros, wrote-accepted}
+use Rattle.record.proofs.AnswerLaws.{checked-accepted, checked-number, wrote-accepted}
+use Rattle.record.proofs.PaddedLaws.{padded-zeros}
 use Rattle.record.proofs.CheckedRowLaws.{first-before}
 use Rattle.record.proofs.HeldLaws.{good-header, good-k, not-long}
 use Rattle.record.proofs.RowLaws.{first-none, first-skips, or-intro}

@@ -14,7 +14,7 @@ use Rattle.rules.specs.Step.{step}
 use Rattle.rules.specs.Store.{fitsWord}
 use Rattle.rules.specs.Syntax.{Block, Config}
 use Rattle.run.specs.RunAnswer.{refusal, roomFor}
-use Rattle.record.proofs.AnswerLaws.{length-padded}
+use Rattle.record.proofs.PaddedLaws.{length-padded}
 use Rattle.record.proofs.HeldLaws.{good-buffer, good-store, store-good}
 use Rattle.record.proofs.HoldingLaws.{padded-program, program-is, program-k, program-passes, program-size, program-used}
 use Rattle.record.proofs.RowLaws.{first-none, none-first}

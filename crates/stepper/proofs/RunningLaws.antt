@@ -10,9 +10,8 @@ use Rattle.buffer.specs.Slice.{put, zeros}
 use Rattle.record.specs.Answers.{padded}
 use Rattle.record.specs.Header.{encodeProgram}
 use Rattle.record.specs.Holding.{ProgramIn}
-use Rattle.record.proofs.AnswerLaws.{length-padded}
+use Rattle.record.proofs.PaddedLaws.{cleared-padded, length-padded}
 use Rattle.record.proofs.HoldingLaws.{padded-program, program-size}
-use Rattle.record.proofs.PaddedLaws.{cleared-padded}
 use Rattle.rules.specs.Rules.{at}
 use Rattle.rules.specs.Run.{Ran}
 use Rattle.rules.specs.Step.{step}

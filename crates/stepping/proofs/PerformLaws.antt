@@ -19,7 +19,7 @@ use Rattle.place.specs.Heads.{recordHead, shifted}
 use Rattle.place.specs.Nesting.{around, plug, rests}
 use Rattle.place.specs.Path.{blocks, path, plugConfig, spot}
 use Rattle.place.specs.Whole.{blockAt, programFront, relengthAll}
-use Rattle.record.proofs.AnswerLaws.{padded-zeros}
+use Rattle.record.proofs.PaddedLaws.{padded-zeros}
 use Rattle.record.proofs.HeaderLaws.{length-encodeProgram}
 use Rattle.rules.proofs.RulesLaws.{rules-step}
 use Rattle.place.proofs.EditLaws.{length-leafBytes, length-removed, removed-behind, removed-cut}

@@ -17,7 +17,7 @@ use Rattle.rules.specs.Syntax.{Answer, Block, Config, next}
 use Rattle.place.specs.Nesting.{around, rests}
 use Rattle.place.specs.Path.{blocks, path, spot}
 use Rattle.place.specs.Whole.{blockAt, programFront}
-use Rattle.record.proofs.AnswerLaws.{drop-padded, length-padded}
+use Rattle.record.proofs.PaddedLaws.{drop-padded, length-padded}
 use Rattle.record.proofs.HoldingLaws.{padded-program, program-size}
 use Rattle.record.proofs.ProgramLaws.{length-encodeBlock}
 use Rattle.rules.proofs.IterateLaws.{OnNext}

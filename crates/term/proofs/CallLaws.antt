@@ -19,7 +19,8 @@ use Rattle.rules.specs.Store.{fitsWord}
 use Rattle.rules.specs.Substitution.{fromStore, substitute}
 use Rattle.rules.specs.Syntax.{Block, Term, empty}
 use Rattle.rules.specs.Translation.{translate}
-use Rattle.record.proofs.AnswerLaws.{length-padded, stored-number, stored-refused, wrote-accepted, wrote-number, wrote-refused}
+use Rattle.record.proofs.AnswerLaws.{stored-number, stored-refused, wrote-accepted, wrote-number, wrote-refused}
+use Rattle.record.proofs.PaddedLaws.{length-padded}
 use Rattle.record.proofs.HeaderLaws.{length-encodeTerm}
 use Rattle.record.proofs.HeldLaws.{not-long, short-buffer, store-good}
 use Rattle.record.proofs.HoldingLaws.{padded-term, program-first, program-is, program-k, store-size, term-first, term-is, term-k, term-open, term-passes, term-size, term-unfinished}
