@@ -5,8 +5,6 @@ use mathlib.Core.Bool.{_&&_, Bool, false, true}
 use mathlib.Core.Option.{Option, none, some}
 use Rattle.rules.specs.Scope.{Within, inRange}
 use Rattle.rules.proofs.ScopeLaws.{inRange-within}
-use Rattle.record.specs.Reading.{bind}
-use Rattle.record.proofs.AloneLaws.{bind-found, bind-none}
 use Rattle.record.specs.HeaderRows.{contentsRow, rangeRow}
 use Rattle.checker.specs.declared.Verdict.{Verdict}
 use Rattle.checker.specs.declared.Verdict.the-variants.{Good, Malformed, Outside}
@@ -47,28 +45,10 @@ worse-assoc Outside Outside Good = refl
 worse-assoc Outside Outside Outside = refl
 worse-assoc Outside Outside Malformed = refl
 
--- a turn of a loop: of what was left, a is found now and b is left
-pub worse-turn : {whole left : Verdict} (found a b next : Verdict) → whole ≡ worse found left → left ≡ worse a b → next ≡ worse found a → whole ≡ worse next b
-worse-turn found a b next e h n = e ∙ ap (worse found) h ∙ sym (worse-assoc found a b) ∙ ap (λ v. worse v b) (sym n)
-
 pub rated-and : (a b : Bool) → rated (a && b) ≡ worse (rated a) (rated b)
 rated-and true b = refl
 rated-and false true = refl
 rated-and false false = refl
-
--- WHAT WAS DECODED
-
-pub verdict-none : {A : Type 0} (p : A → Bool) (o : Option A) → o ≡ none → verdict p o ≡ Malformed
-verdict-none p o e = rw e refl
-
-pub verdict-some : {A : Type 0} (p : A → Bool) (o : Option A) (a : A) → o ≡ some a → verdict p o ≡ rated (p a)
-verdict-some p o a e = rw e refl
-
--- one thing decoded and then another: C is the verdict on the whole by that on the first
-pub verdict-bind : {A B : Type 0} (p : A → Bool) (q : B → Bool) (C : Verdict → Verdict) → C Malformed ≡ Malformed
-    → (o : Option A) (f : A → Option B) → ((a : A) → verdict q (f a) ≡ C (rated (p a))) → verdict q (bind o f) ≡ C (verdict p o)
-verdict-bind p q C bad none f h = verdict-none q (bind none f) (bind-none none f refl) ∙ sym (ap C (verdict-none p none refl) ∙ bad)
-verdict-bind p q C bad (some a) f h = ap (verdict q) (bind-found (some a) f a refl) ∙ h a ∙ ap C (sym (verdict-some p (some a) a refl))
 
 -- THE NUMBER OF A VERDICT is that of the first of rows 4 and 5 that applies
 

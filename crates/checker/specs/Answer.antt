@@ -1,4 +1,4 @@
--- The checker's answer as the record that the rows give.
+-- A check's answer as the record that the rows give.
 use Rattle.record.specs.Answers as answers
 use Rattle.checker.specs.declared.Checked.{Checked}
 

@@ -1,5 +1,2 @@
 pub mod Verdict
 pub mod Answer
-pub mod Opens
-pub mod TermKind
-pub mod TermVerdict

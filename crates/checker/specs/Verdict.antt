@@ -2,8 +2,6 @@
 use Prim.Native.Nat.{ℕ}
 use mathlib.Core.Bool.{Bool, false, true}
 use mathlib.Core.Option.{Option, none, some}
-use Rattle.rules.specs.Scope.{blockInRange}
-use Rattle.rules.specs.Syntax.{Block}
 use Rattle.checker.specs.declared.Verdict.{Verdict}
 use Rattle.checker.specs.declared.Verdict.the-variants.{Good, Malformed, Outside}
 
@@ -30,7 +28,3 @@ rated false = Outside
 abbrev pub verdict : {A : Type 0} → (A → Bool) → Option A → Verdict
 verdict inRange none = Malformed
 verdict inRange (some a) = rated (inRange a)
-
--- The verdict on a block of a program of k variables.
-abbrev pub blockVerdict : ℕ → Option Block → Verdict
-blockVerdict k = verdict (blockInRange k)

@@ -1,12 +1,9 @@
-// The checker: rows 1 to 5 of the table of refusals over lent bytes. This file has what programs and terms share.
-pub mod program;
-pub mod term;
-
+// What the check of a program and the check of a term share: rows 1 to 3, a variable number's range, what is found of a
+// record's contents (rows 4 and 5), and the answer.
 use reader::Cell;
 use reader::Head;
 ghost use mathlib.Core.Path.{_≡_};
 ghost use Rattle.rules.specs.Scope.{inRange};
-ghost use Rattle.record.specs.Alone.{recordKind};
 ghost use Rattle.record.specs.Answers.{checkedBy};
 ghost use Rattle.record.specs.HeaderRows.{headerRow};
 ghost use Rattle.checker.specs.Answer.{asChecked};
@@ -27,7 +24,7 @@ pub struct Checked {
     pub k: u32,
 }
 
-fn worst(a: Verdict, b: Verdict) -> Verdict
+pub fn worst(a: Verdict, b: Verdict) -> Verdict
     ensures { λ r. ⌜ r ≡ worse a b ⌝ }
 {
     match a {
@@ -41,7 +38,7 @@ fn worst(a: Verdict, b: Verdict) -> Verdict
     }
 }
 
-fn number_of(v: Verdict) -> u32
+pub fn number_of(v: Verdict) -> u32
     ensures { λ r. ⌜ r ≡ numberOf v ⌝ }
 {
     match v {
@@ -51,7 +48,7 @@ fn number_of(v: Verdict) -> u32
     }
 }
 
-fn check_variable(x: u32, k: u32) -> Verdict
+pub fn check_variable(x: u32, k: u32) -> Verdict
     ensures { λ r. ⌜ r ≡ rated (inRange k x) ⌝ }
 {
     if x < 1 {
@@ -64,7 +61,7 @@ fn check_variable(x: u32, k: u32) -> Verdict
 }
 
 // A refusal gives no k.
-fn answer(number: u32, k: u32) -> Checked
+pub fn answer(number: u32, k: u32) -> Checked
     ensures { λ r. ⌜ asChecked r ≡ checkedBy number k ⌝ }
 {
     if number == 0 {
@@ -78,7 +75,7 @@ fn answer(number: u32, k: u32) -> Checked
 }
 
 // The first of rows 1 to 3 that applies to a record of this kind; 0 where none does. Under 8 bytes a record has no k.
-fn check_header(buf: &[u8], used: usize, kind: usize) -> u32
+pub fn check_header(buf: &[u8], used: usize, kind: usize) -> u32
     ensures { λ r. ⌜ r ≡ headerRow kind (now (buf .entry)) used ⌝ }
 {
     if 16384 < buf.len() {
@@ -111,17 +108,4 @@ fn check_header(buf: &[u8], used: usize, kind: usize) -> u32
         Head::End => 2,
         Head::Short => 2,
     }
-}
-
-// The kind of the one record that s is; 0, which is no kind, where it is not one record.
-fn record_kind(s: &[u8]) -> usize
-    ensures { λ r. ⌜ r ≡ recordKind (now (s .entry)) ⌝ }
-{
-    if s.len() < 4 {
-        return 0;
-    }
-    if buffer::get_u16(s, 0) != s.len() {
-        return 0;
-    }
-    buffer::get_u16(s, 2)
 }

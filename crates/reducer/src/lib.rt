@@ -6,7 +6,6 @@ ghost use Rattle.rules.specs.Syntax.{Term};
 ghost use Rattle.run.specs.Represents.{asOutcome, asRunAnswer};
 ghost use Rattle.reducer.specs.RunReducer.{runReducer};
 ghost use Rattle.reducer.specs.Running.{Accepted, Gives, acceptedRun, planReads};
-use checker::term::check_term;
 use filling::closed::is_closed;
 use redex::Plan;
 use redex::Rule;
@@ -15,6 +14,7 @@ use reducing::perform::perform;
 use run::Outcome;
 use run::RunEnd;
 use run::Tally;
+use term_checker::check_term;
 
 // The outcome that a term of `used` bytes reads, first match, from the plan of its next reduction. What comes is added before
 // what goes is taken away: so nothing wraps.

@@ -13,7 +13,7 @@ ghost use Rattle.report.specs.Reads.{RecordRead};
 use buffer::get_u16;
 use buffer::get_u32;
 use checker::Checked;
-use checker::program::check_program;
+use program_checker::check_program;
 
 fn refused(number: u32) -> Checked
     ensures { λ r. ⌜ asChecked r ≡ record { number = number; k = 0 } ⌝ }

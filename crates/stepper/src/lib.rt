@@ -6,7 +6,7 @@ ghost use Rattle.rules.specs.Syntax.{Block};
 ghost use Rattle.run.specs.Represents.{asOutcome, asRunAnswer};
 ghost use Rattle.stepper.specs.RunStepper.{runStepper};
 ghost use Rattle.stepper.specs.Running.{Accepted, Gives, acceptedRun, planReads};
-use checker::program::check_program;
+use program_checker::check_program;
 use run::Outcome;
 use run::RunEnd;
 use run::Tally;

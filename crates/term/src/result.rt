@@ -1,8 +1,8 @@
 // The call result: the values of a finished term into a store (01 "Result and weighing").
-use checker::term::check_term;
 use filling::closed::is_closed;
 use numerals::copy_numerals;
 use numerals::is_finished;
+use term_checker::check_term;
 ghost use mathlib.Core.Path.{_≡_};
 ghost use Prim.Native.Nat.{_≤_};
 ghost use lib.ListN.{length};

@@ -1,7 +1,7 @@
 // The call substitute: a store's values for the free variables of a term, in place (01 "Filling").
 use super::Written;
-use checker::term::check_term;
 use filling::substitution::substitute_record;
+use term_checker::check_term;
 ghost use mathlib.Core.Path.{_≡_};
 ghost use Prim.Native.Nat.{_≤_};
 ghost use lib.ListN.{length};

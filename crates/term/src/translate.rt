@@ -1,7 +1,7 @@
 // The call translate: a program's term into another buffer (01 "Translation and read-back").
 use super::LONGEST;
 use super::Written;
-use checker::program::check_program;
+use program_checker::check_program;
 use translator::translation::translation_size;
 use translator::translation::write_translation;
 ghost use mathlib.Core.Path.{_≡_};

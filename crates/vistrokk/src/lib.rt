@@ -14,14 +14,14 @@ ghost use Rattle.weighing.specs.Weigh.{weighCall};
 pub extern "C" fn vistrokk_check_program(buf: &[u8], used: usize) -> checker::Checked
     ensures { λ r. ⌜ asChecked r ≡ checkProgram (now (buf .entry)) used ⌝ }
 {
-    checker::program::check_program(buf, used)
+    program_checker::check_program(buf, used)
 }
 
 #[no_mangle]
 pub extern "C" fn vistrokk_check_term(buf: &[u8], used: usize) -> checker::Checked
     ensures { λ r. ⌜ asChecked r ≡ checkTerm (now (buf .entry)) used ⌝ }
 {
-    checker::term::check_term(buf, used)
+    term_checker::check_term(buf, used)
 }
 
 #[no_mangle]

@@ -5,7 +5,7 @@ use Rattle.report.proofs.input.check_input.Tie as tie
 use Rattle.report.proofs.input.check_input.Reads as reads
 use Rattle.report.proofs.input.check_input.Lts as lts
 use Rattle.buffer.proofs.get_u16.Reads as get-u16-reads
-use Rattle.checker.proofs.program.check_program.Reads as check-program-reads
+use Rattle.program_checker.proofs.check_program.Reads as check-program-reads
 use Rattle.report.proofs.input.refused.Reads as refused-reads
 use native.Mathlib.Omega.{arith}
 use mathlib.Core.Path.{_∙_, sym}

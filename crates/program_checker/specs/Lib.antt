@@ -1,0 +1,2 @@
+pub mod BlockVerdict
+pub mod Opens

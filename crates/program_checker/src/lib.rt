@@ -1,0 +1,197 @@
+// The check of a program. The device's stack is small and blocks nest deeply: of a command and the rest of its row the
+// shorter is checked by a call and the longer by the loop, so the calls nest no deeper than the logarithm of the length.
+use checker::Checked;
+use checker::Verdict;
+use checker::answer;
+use checker::check_header;
+use checker::check_variable;
+use checker::number_of;
+use checker::worst;
+use record::kind::ASSIGNMENT;
+use record::kind::BLOCK;
+use record::kind::LITERAL;
+use record::kind::LOOP;
+use record::kind::PROGRAM;
+use record::kind::VARIABLE;
+ghost use mathlib.Core.Path.{_≡_};
+ghost use lib.ListN.{length};
+ghost use Rattle.rules.specs.Scope.{boundInRange, exprInRange};
+ghost use Rattle.record.specs.Answers.{checkProgram};
+ghost use Rattle.record.specs.Front.{Front, only, u16};
+ghost use Rattle.record.specs.Header.{blockIn};
+ghost use Rattle.record.specs.Program.{decodeBlock, readBound, readExpr};
+ghost use Rattle.checker.specs.Answer.{asChecked};
+ghost use Rattle.checker.specs.Verdict.{verdict};
+ghost use Rattle.checker.specs.declared.Verdict.the-variants.{Malformed};
+ghost use Rattle.program_checker.specs.BlockVerdict.{blockVerdict};
+ghost use Rattle.program_checker.specs.Opens.{Opens};
+
+// The head of a command: what it was found to be, and where the commands inside it start.
+struct Head {
+    verdict: Verdict,
+    inner: usize,
+}
+
+fn check_expression(s: &[u8], k: u32) -> Verdict
+    requires { ⌜ length (now s) ≡ 8 ⌝ }
+    ensures { λ r. ⌜ r ≡ verdict (exprInRange k) (only (readExpr (now (s .entry)))) ⌝ }
+{
+    if buffer::get_u16(s, 0) != 8 {
+        return Verdict::Malformed;
+    }
+    let kind = buffer::get_u16(s, 2);
+    match record::class_of(kind) {
+        record::Class::Expression => {
+            if kind == LITERAL {
+                Verdict::Good
+            } else {
+                check_variable(buffer::get_u32(s, 4), k)
+            }
+        }
+        record::Class::Program => Verdict::Malformed,
+        record::Class::Term => Verdict::Malformed,
+        record::Class::Malformed => Verdict::Malformed,
+    }
+}
+
+// A bound is a literal or a variable, the first two kinds of expressions.
+fn check_bound(s: &[u8], k: u32) -> Verdict
+    requires { ⌜ length (now s) ≡ 8 ⌝ }
+    ensures { λ r. ⌜ r ≡ verdict (boundInRange k) (only (readBound (now (s .entry)))) ⌝ }
+{
+    if VARIABLE < buffer::get_u16(s, 2) {
+        return Verdict::Malformed;
+    }
+    check_expression(s, k)
+}
+
+fn check_assignment(s: &[u8], k: u32) -> Verdict
+    requires { ⌜ Front (now s) (length (now s)) ⌝ }
+    requires { ⌜ u16 (now s) 2 ≡ 2 ⌝ }
+    ensures { λ r. ⌜ r ≡ blockVerdict k (decodeBlock (now (s .entry))) ⌝ }
+{
+    if s.len() != 16 {
+        return Verdict::Malformed;
+    }
+    worst(
+        check_variable(buffer::get_u32(s, 4), k),
+        check_expression(&s[8..16], k),
+    )
+}
+
+// The head of a record that is no command: it takes all of the record, and nothing is inside it.
+fn no_command(length: usize) -> Head
+    ensures { λ r. ⌜ (r .verdict ≡ Malformed) × (r .inner ≡ length) ⌝ }
+{
+    Head {
+        verdict: Verdict::Malformed,
+        inner: length,
+    }
+}
+
+fn open_loop(s: &[u8], k: u32) -> Head
+    requires { ⌜ Front (now s) (length (now s)) ⌝ }
+    requires { ⌜ u16 (now s) 2 ≡ 3 ⌝ }
+    ensures { λ r. ⌜ Opens k (now (s .entry)) (r .verdict) (r .inner) ⌝ }
+{
+    if s.len() < 20 {
+        return no_command(s.len());
+    }
+    if record::is_only(&s[16..], BLOCK) {
+        let index = check_variable(buffer::get_u32(s, 4), k);
+        Head {
+            verdict: worst(index, check_bound(&s[8..16], k)),
+            inner: 20,
+        }
+    } else {
+        no_command(s.len())
+    }
+}
+
+// The class decides, then the kind; a program's own is no command's. A head with nothing inside ends where the record ends.
+fn open_command(s: &[u8], k: u32) -> Head
+    requires { ⌜ Front (now s) (length (now s)) ⌝ }
+    ensures { λ r. ⌜ Opens k (now (s .entry)) (r .verdict) (r .inner) ⌝ }
+{
+    let kind = buffer::get_u16(s, 2);
+    match record::class_of(kind) {
+        record::Class::Program => match kind {
+            BLOCK => Head {
+                verdict: Verdict::Good,
+                inner: 4,
+            },
+            ASSIGNMENT => Head {
+                verdict: check_assignment(s, k),
+                inner: s.len(),
+            },
+            LOOP => open_loop(s, k),
+            _ => no_command(s.len()),
+        },
+        record::Class::Expression => no_command(s.len()),
+        record::Class::Term => no_command(s.len()),
+        record::Class::Malformed => no_command(s.len()),
+    }
+}
+
+// The contents of a block's record: its commands in a row, from `at` up to `end` those that are left to check.
+fn check_block(s: &[u8], k: u32) -> Verdict
+    ensures { λ r. ⌜ r ≡ blockVerdict k (decodeBlock (now (s .entry))) ⌝ }
+{
+    let mut found = Verdict::Good;
+    let mut at = 0;
+    let mut end = s.len();
+    while at < end {
+        let n = record::first_length(&s[at..end]);
+        if n == 0 {
+            return Verdict::Malformed;
+        }
+        let next = at + n;
+        let head = open_command(&s[at..next], k);
+        let verdict = head.verdict;
+        let inner = head.inner;
+        if n <= end - next {
+            found = worst(found, check_command(&s[at..next], k, verdict, inner));
+            at = next;
+        } else {
+            found = worst(found, check_block(&s[next..end], k));
+            found = worst(found, verdict);
+            at += inner;
+            end = next;
+        }
+    }
+    found
+}
+
+// One command's record, which is a row of one command. Its head is opened by the caller, who needs it in either case: a head
+// here as well would be on the stack once for each level.
+fn check_command(s: &[u8], k: u32, verdict: Verdict, inner: usize) -> Verdict
+    requires { ⌜ Opens k (now s) verdict inner ⌝ }
+    ensures { λ r. ⌜ r ≡ blockVerdict k (decodeBlock (now (s .entry))) ⌝ }
+{
+    worst(verdict, check_block(&s[inner..], k))
+}
+
+// What follows a program's header: one block.
+fn check_contents(s: &[u8], k: u32) -> Verdict
+    ensures { λ r. ⌜ r ≡ blockVerdict k (blockIn (now (s .entry))) ⌝ }
+{
+    if record::is_only(s, BLOCK) {
+        check_block(&s[4..], k)
+    } else {
+        Verdict::Malformed
+    }
+}
+
+pub fn check_program(buf: &[u8], used: usize) -> Checked
+    ensures { λ r. ⌜ asChecked r ≡ checkProgram (now (buf .entry)) used ⌝ }
+{
+    let header = check_header(buf, used, PROGRAM);
+    if header != 0 {
+        return answer(header, 0);
+    }
+    let k = buffer::get_u32(buf, 4);
+    answer(
+        number_of(check_contents(&buf[record::HEADER_LENGTH..used], k)),
+        k,
+    )
+}

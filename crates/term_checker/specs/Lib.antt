@@ -1,0 +1,2 @@
+pub mod TermKind
+pub mod TermVerdict
