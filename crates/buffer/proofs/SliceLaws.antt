@@ -10,7 +10,7 @@ use lib.ListN.{length, take, drop, getD, set, length-append, length-take, length
 use lib.Seq.{take-at, drop-at, drop-append-add, drop-drop, length-take-le, take-add, getD-drop, getD-take, getD-append-add, sets, sets-eq, drop-cons, take-suc}
 use Rattle.buffer.specs.LittleEndian.{le, val, Bytes}
 use Rattle.buffer.specs.Slice.{put, part, zeros}
-use Rattle.buffer.proofs.LittleEndianLaws.{length-le, val-le, bytes-append, bytes-take, bytes-drop}
+use Rattle.buffer.proofs.LittleEndianLaws.{length-le, val-le}
 
 pub put-re : (l p m q vs : List ℕ) (at : ℕ) → l ≡ p ++ (m ++ q) → length p ≡ at → length m ≡ length vs → put l at vs ≡ p ++ (vs ++ q)
 unfolding put
@@ -52,26 +52,10 @@ unfolding zeros
 bytes-zeros zero = tt
 bytes-zeros (suc n) = (omega arith, bytes-zeros n)
 
-pub bytes-put : (l vs : List ℕ) (at : ℕ) → Bytes l → Bytes vs → Bytes (put l at vs)
-unfolding put
-bytes-put l vs at h k =
-    bytes-append (take at l) (vs ++ drop (at + length vs) l) (bytes-take at l h)
-    (bytes-append vs (drop (at + length vs) l) k (bytes-drop (at + length vs) l h))
-
-pub bytes-part : (l : List ℕ) (at n : ℕ) → Bytes l → Bytes (part l at n)
-unfolding part
-bytes-part l at n h = bytes-take n (drop at l) (bytes-drop at l h)
-
 -- A part and the part behind it are one.
 part-append : (l : List ℕ) (at m n : ℕ) → part l at (m + n) ≡ part l at m ++ part l (at + m) n
 unfolding part
 part-append l at m n = take-add m n (drop at l) ∙ ap (λ (x : List ℕ). take m (drop at l) ++ take n x) (drop-drop m at l)
-
--- What was written is read back.
-pub part-put-same : (l vs : List ℕ) (at n : ℕ) → at ≤ length l → length vs ≡ n → part (put l at vs) at n ≡ vs
-unfolding put
-part-put-same l vs at n h k =
-    part-re (take at l ++ (vs ++ drop (at + length vs) l)) (take at l) vs (drop (at + length vs) l) at n refl (length-take-le at l h) k
 
 pub put-nil : (l : List ℕ) (at : ℕ) → put l at [] ≡ l
 unfolding put

@@ -58,16 +58,6 @@ at-join {l} {p} {q} {m} {n} h k e =
     let b : drop q l ≡ n ++ k .post = ap (drop q) (k .is) ∙ drop-at (k .pre) (n ++ k .post) q (k .len) in
     record { pre = h .pre; post = k .post; is = h .is ∙ ap (λ (y : List ℕ). h .pre ++ (m ++ y)) (sym a ∙ b) ∙ simp append-assoc; len = h .len }
 
--- what is read of a list stands there
-pub at-read : (l : List ℕ) (p n : ℕ) → p + n ≤ length l → At l p (part l p n)
-unfolding part
-at-read l p n h = record {
-  pre = take p l;
-  post = drop n (drop p l);
-  is = rw (take-append-drop n (drop p l)) (sym (take-append-drop p l));
-  len = length-take-le p l (omega arith);
-}
-
 -- WHAT IS READ
 
 pub part-at : {l : List ℕ} {p : ℕ} {m : List ℕ} → At l p m → (n : ℕ) → length m ≡ n → part l p n ≡ m
@@ -85,9 +75,6 @@ word-read v h b = (val-at 4 v h b, part-at h 4 (length-le 4 v))
 pub put-at : {l : List ℕ} {p : ℕ} {m : List ℕ} (h : At l p m) (vs : List ℕ) → length m ≡ length vs → put l p vs ≡ h .pre ++ (vs ++ h .post)
 put-at {l} {p} {m} h vs e = put-re l (h .pre) m (h .post) vs p (h .is) (h .len) e
 
-pub at-put : {l : List ℕ} {p : ℕ} {m : List ℕ} → At l p m → (vs : List ℕ) → length m ≡ length vs → At (put l p vs) p vs
-at-put h vs e = record { pre = h .pre; post = h .post; is = put-at h vs e; len = h .len }
-
 -- a store of what stands there changes nothing
 pub put-same : {l : List ℕ} {p : ℕ} {m : List ℕ} → At l p m → put l p m ≡ l
 put-same {l} {p} {m} h = put-at h m refl ∙ sym (h .is)
@@ -99,25 +86,3 @@ unfolding at-part
 put-part {l} {p} {m} h a b c vs q e n s =
     put-at (at-part h a b c q e n) vs s
     ∙ sym (put-at h (a ++ (vs ++ c)) (ap length e ∙ simp length-append (omega arith)) ∙ simp append-assoc)
-
--- a second store over the same bytes
-pub put-over : {l : List ℕ} {p : ℕ} {m : List ℕ} → At l p m → (vs ws : List ℕ) → length m ≡ length vs → length m ≡ length ws → put (put l p vs) p ws ≡ put l p ws
-unfolding at-put
-put-over h vs ws e f = put-at (at-put h vs e) ws (sym e ∙ f) ∙ sym (put-at h ws f)
-
--- a store over the first of two neighbours leaves the second, and over the second the first
-pub at-put-first : {l : List ℕ} {p : ℕ} (m n vs : List ℕ) (q : ℕ) → At l p (m ++ n) → length m ≡ length vs → p + length m ≡ q → At (put l p vs) q n
-at-put-first {l} {p} m n vs q h e hq = record {
-  pre = h .pre ++ vs;
-  post = h .post;
-  is = put-re l (h .pre) m (n ++ h .post) vs p (h .is ∙ simp append-assoc) (h .len) e ∙ simp append-assoc;
-  len = length-append (h .pre) vs ∙ omega (arith, h .len);
-}
-
-pub at-put-second : {l : List ℕ} {p : ℕ} (m n vs : List ℕ) (q : ℕ) → At l p (m ++ n) → length n ≡ length vs → p + length m ≡ q → At (put l q vs) p m
-at-put-second {l} {p} m n vs q h e hq = record {
-  pre = h .pre;
-  post = vs ++ h .post;
-  is = put-re l (h .pre ++ m) n (h .post) vs q (h .is ∙ simp append-assoc) (length-append (h .pre) m ∙ omega (arith, h .len)) e ∙ simp append-assoc;
-  len = h .len;
-}

@@ -1,7 +1,7 @@
 -- Laws of edits on plain lists: bytes taken out, pieces stored, and the bytes of an unrolled loop or rec.
 use Prim.Native.Nat.{_+_, _-_, _≤_, ℕ}
 use mathlib.Core.Path.{ap, refl, sym, _∙_, _≡_}
-use mathlib.Core.List.{_++_, List, [], append-assoc, append-nil}
+use mathlib.Core.List.{_++_, List, append-assoc}
 use lib.ListN.{drop, length, length-append, length-drop, take, take-append-drop}
 use lib.Seq.{drop-at, length-take-le, take-at}
 use native.Mathlib.Omega.{arith}
@@ -9,10 +9,9 @@ use Rattle.buffer.specs.LittleEndian.{le}
 use Rattle.buffer.specs.Slice.{part, put, zeros}
 use Rattle.buffer.proofs.LittleEndianLaws.{length-le}
 use Rattle.buffer.proofs.SliceLaws.{length-part, length-put, length-zeros, part-re, put-put, put-re}
-use Rattle.place.specs.At.{At}
 use Rattle.place.specs.Edit.{Cut, closedUp, lead, leafBytes, removed}
 use Rattle.place.specs.Heads.{recordHead}
-use Rattle.place.proofs.AtLaws.{at-room, put-part, split-take, take-split}
+use Rattle.place.proofs.AtLaws.{split-take, take-split}
 use Rattle.place.proofs.HeadsLaws.{length-recordHead}
 
 -- TAKING OUT
@@ -100,23 +99,6 @@ put-lead l p q r kind n x leaf v eq er h =
     let a : put (put l p h₁) q (le 4 x) ≡ put l p (h₁ ++ le 4 x) = put-put l h₁ (le 4 x) p q (ap (λ (y : ℕ). p + y) (length-recordHead kind n) ∙ sym eq) (omega arith) in
     let b : p + length (h₁ ++ le 4 x) ≡ r = ap (λ (y : ℕ). p + y) (simp (length-append, length-recordHead, length-le)) ∙ sym er in
     ap (λ (y : List ℕ). put y r (leafBytes leaf v)) a ∙ put-put l (h₁ ++ le 4 x) (leafBytes leaf v) p r b h ∙ ap (put l p) (append-assoc h₁ (le 4 x) (leafBytes leaf v))
-
--- of a leaf that stands there, only the kind and the number stored; only the number
-pub put-leaf-kind : {l : List ℕ} {p : ℕ} (kind v kind′ v′ q r : ℕ) → At l p (leafBytes kind v) → q ≡ p + 2 → r ≡ p + 4
-    → put (put l q (le 2 kind′)) r (le 4 v′) ≡ put l p (leafBytes kind′ v′)
-unfolding leafBytes recordHead
-put-leaf-kind {l} {p} kind v kind′ v′ q r h eq er =
-    let n : length (leafBytes kind v) ≡ 8 = length-leafBytes kind v in
-    let room : p + length (leafBytes kind v) ≤ length l = at-room h in
-    put-put l (le 2 kind′) (le 4 v′) q r (ap (λ (y : ℕ). q + y) (length-le 2 kind′) ∙ omega arith) (omega arith)
-    ∙ put-part h (le 2 8) (le 2 kind ++ le 4 v) [] (le 2 kind′ ++ le 4 v′) q (simp (append-assoc, append-nil)) (ap (λ (y : ℕ). p + y) (length-le 2 8) ∙ sym eq) (simp (length-append, length-le))
-    ∙ ap (put l p) (simp (append-assoc, append-nil))
-
-pub put-leaf-number : {l : List ℕ} {p : ℕ} (kind v v′ r : ℕ) → At l p (leafBytes kind v) → r ≡ p + 4 → put l r (le 4 v′) ≡ put l p (leafBytes kind v′)
-unfolding leafBytes
-put-leaf-number {l} {p} kind v v′ r h er =
-    put-part h (recordHead kind 8) (le 4 v) [] (le 4 v′) r (simp append-nil) (ap (λ (y : ℕ). p + y) (length-recordHead kind 8) ∙ sym er) (length-le 4 v ∙ sym (length-le 4 v′))
-    ∙ ap (put l p) (simp append-nil)
 
 -- UNROLLING: a head H before what stands at p, another leaf in it, and behind it a piece and its body once more
 

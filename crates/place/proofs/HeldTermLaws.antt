@@ -2,7 +2,7 @@
 use Prim.Native.Nat.{_+_, ℕ, _≤_}
 use mathlib.Core.Path.{ap, refl, sym, _∙_, _≡_}
 use mathlib.Core.List.{_++_, List, [], append-assoc, append-nil}
-use lib.ListN.{drop, length, length-append, take, take-append-drop}
+use lib.ListN.{drop, length, length-append, take-append-drop}
 use native.Mathlib.Omega.{arith}
 use Rattle.buffer.specs.LittleEndian.{le}
 use Rattle.rules.specs.FreeVariables.{Vars}

@@ -4,7 +4,7 @@ use Prim.Native.Nat.{_*_, _+_, _<_, _≤_, ℕ}
 use mathlib.Core.Path.{ap, refl, sym, _∙_, _≡_}
 use mathlib.Core.Bool.{Bool, false, true}
 use mathlib.Core.List.{_++_, List, [], append-nil, _∷_}
-use borrow.Author.Tests.{eq-eqb, eqb-true, le-ltb, lt-ltb, ltb-true, ne-eqb}
+use borrow.Author.Tests.{eq-eqb, eqb-true, lt-ltb, ltb-true, ne-eqb}
 use lib.Dec.{eqb, ltb}
 use lib.ListN.{length, length-append}
 use native.Mathlib.Omega.{arith}
@@ -19,10 +19,10 @@ use Rattle.rules.proofs.FinishedLaws.{step-finished}
 use Rattle.rules.proofs.Tests.{and-both, true-false}
 use Rattle.record.proofs.ProgramLaws.{length-encodeBlock}
 use Rattle.place.specs.Heads.{recordHead}
-use Rattle.place.specs.Nesting.{Nests, around, heads, plug, rests}
+use Rattle.place.specs.Nesting.{Nests, around, plug}
 use Rattle.place.specs.Path.{Spot, Walk, blocks, opensAt, path, plugConfig, spot, spotAssign, spotEmpty, spotLoop}
 use Rattle.place.specs.ProgramView.{BlockAt}
-use Rattle.place.proofs.NestingLaws.{encode-plug, plug-at, plug-keeps, plug-nil, plug-snoc, size-plug}
+use Rattle.place.proofs.NestingLaws.{plug-at, plug-keeps, plug-nil, plug-snoc, size-plug}
 use Rattle.place.proofs.ProgramBytesLaws.{blockSize-assign, blockSize-empty, blockSize-loop, blockSize-nest, blockSize-some, encodeBlock-nest}
 use Rattle.place.proofs.ProgramViewLaws.{as-nest, block-index, block-room, block-same, nest-view}
 
@@ -34,9 +34,6 @@ blocks-nest = record {
   encode-wrap = λ t r. let e : 4 + blockSize t ≡ 4 + blockSize t + 0 = omega arith in encodeBlock-nest t r ∙ ap (λ (n : ℕ). recordHead 1 n ++ (encodeBlock t ++ encodeBlock r)) e;
   inside-le = λ r. omega arith;
 }
-
-pub encodeBlock-plug : (p : List Block) (b : Block) → encodeBlock (plug blocks p b) ≡ heads blocks p (blockSize b) ++ (encodeBlock b ++ rests blocks p)
-encodeBlock-plug = encode-plug blocks blocks-nest
 
 pub blockSize-plug : (p : List Block) (b : Block) → blockSize (plug blocks p b) ≡ blockSize b + around blocks p
 blockSize-plug = size-plug blocks blocks-nest
@@ -78,12 +75,6 @@ unfolding path
 path-spot _ spotAssign = refl
 path-spot _ spotLoop = refl
 path-spot _ spotEmpty = refl
-
-pub spot-spot : (b : Block) → Spot b → spot b ≡ b
-unfolding spot
-spot-spot _ spotAssign = refl
-spot-spot _ spotLoop = refl
-spot-spot _ spotEmpty = refl
 
 pub spot-some : (b : Block) → Spot b → 0 < blockSize b
 unfolding blockSize
@@ -133,10 +124,6 @@ opens-kind l p h = rw (ne-eqb (val (part l (p + 2) 2)) 1 h)
 pub opens-test : (l : List ℕ) (p n : ℕ) → val (part l (p + 2) 2) ≡ 1 → n ≡ val (part l p 2) → ltb 4 n ≡ opensAt l p
 unfolding opensAt
 opens-test l p n e f = rw (e, f) refl
-
-pub opens-short : (l : List ℕ) (p : ℕ) → val (part l (p + 2) 2) ≡ 1 → val (part l p 2) ≤ 4 → opensAt l p ≡ false
-unfolding opensAt
-opens-short l p e h = rw (eq-eqb (val (part l (p + 2) 2)) 1 e, le-ltb 4 (val (part l p 2)) h)
 
 -- a block with commands in it passes the test
 opens-nest : (l : List ℕ) (p : ℕ) (c r : Block) → BlockAt l p (nest c r) → 0 < blockSize c → opensAt l p ≡ true

@@ -7,7 +7,7 @@ use lib.ListN.{length, length-append}
 use native.Mathlib.Omega.{arith}
 use Rattle.buffer.specs.LittleEndian.{le}
 use Rattle.rules.specs.Syntax.{Block, Bound, Expr, assign, dec, empty, inc, lit, loop, nest, upto, uptoVar, var}
-use Rattle.record.specs.Program.{BlockWords, blockSize, boundKind, boundNumber, encodeBlock, encodeBound, encodeExpr, exprKind, exprNumber}
+use Rattle.record.specs.Program.{BlockWords, blockSize, boundKind, encodeBlock, encodeBound, encodeExpr, exprKind, exprNumber}
 use Rattle.record.specs.Reading.{encodeLeaf}
 use Rattle.record.specs.Record.{encodeRecord}
 use Rattle.buffer.proofs.LittleEndianLaws.{length-le}
@@ -65,16 +65,6 @@ kind-dec (lit v) h = absurd (omega arith)
 kind-dec (var v) h = absurd (omega arith)
 kind-dec (inc v) h = absurd (omega arith)
 kind-dec (dec v) h = refl
-
-pub kind-upto : (n : Bound) → boundKind n ≡ 16 → n ≡ upto (boundNumber n)
-unfolding boundKind boundNumber
-kind-upto (upto v) h = refl
-kind-upto (uptoVar v) h = absurd (omega arith)
-
-pub kind-uptoVar : (n : Bound) → boundKind n ≡ 17 → n ≡ uptoVar (boundNumber n)
-unfolding boundKind boundNumber
-kind-uptoVar (upto v) h = absurd (omega arith)
-kind-uptoVar (uptoVar v) h = refl
 
 -- BLOCKS
 

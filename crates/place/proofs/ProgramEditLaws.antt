@@ -34,11 +34,6 @@ pub encodeBlock-assign-lead : (x : ℕ) (e : Expr) (r : Block) → encodeBlock (
 unfolding lead
 encodeBlock-assign-lead x e r = encodeBlock-assign x e r ∙ rw (encodeExpr-leaf e) (simp append-assoc)
 
-pub encodeBlock-loop-lead : (x : ℕ) (n : Bound) (b r : Block)
-    → encodeBlock (loop x n b r) ≡ lead 3 (20 + blockSize b) x (boundKind n) (boundNumber n) ++ encodeBlock (nest b r)
-unfolding lead
-encodeBlock-loop-lead x n b r = encodeBlock-loop x n b r ∙ rw (encodeBound-leaf n) (simp append-assoc)
-
 -- THE FIRST COMMAND GONE
 
 module _ (l m pre post : List ℕ) (p used : ℕ) (fits : used ≤ length l) (place : length pre ≡ p) where

@@ -1,7 +1,6 @@
 -- What stands first in a block that stands at an index: one view for each kind, and the end of the row.
 use Prim.Native.Nat.{_+_, _<_, _≤_, ℕ}
 use mathlib.Core.Path.{ap, refl, subst, sym, _∙_, _≡_}
-use mathlib.Core.Logic.{_↔_}
 use mathlib.Core.List.{_++_, List, [], append-assoc, append-nil}
 use lib.Dec.{lit<}
 use lib.ListN.{length, length-append}
@@ -40,12 +39,6 @@ block-append {l} {p} {q} {b} {c} h k e s = record {
 }
 
 -- THE END OF THE ROW: nothing is left exactly of the empty block
-
-pub row-end : (b : Block) (p to : ℕ) → p + blockSize b ≡ to → (p ≡ to) ↔ (b ≡ empty)
-row-end b p to e = (
-  (λ h. blockSize-zero b (omega arith)),
-  (λ h. let z : blockSize b ≡ 0 = ap blockSize h ∙ blockSize-empty in omega arith),
-)
 
 pub row-empty : (b : Block) (p to : ℕ) → p + blockSize b ≡ to → to ≤ p → b ≡ empty
 row-empty b p to e h = blockSize-zero b (omega arith)

@@ -1,8 +1,8 @@
 -- The two records with their heads in sight, and where a program's commands stand in a buffer.
-use Prim.Native.Nat.{_+_, _<_, _≤_, ℕ}
+use Prim.Native.Nat.{_+_, _≤_, ℕ}
 use mathlib.Core.Path.{ap, refl, sym, _∙_, _≡_}
 use mathlib.Core.List.{_++_, List, [], append-assoc, append-nil}
-use lib.ListN.{drop, length, length-append, take, take-append-drop}
+use lib.ListN.{drop, length, length-append, take-append-drop}
 use native.Mathlib.Omega.{arith}
 use Rattle.buffer.specs.LittleEndian.{le}
 use Rattle.rules.specs.Syntax.{Block, Term}

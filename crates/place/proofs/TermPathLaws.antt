@@ -16,10 +16,10 @@ use Rattle.record.specs.Term.{TermWords, encodeTermRecord, kindOfTerm, termSize
 use Rattle.rules.proofs.FinishedLaws.{reduce-finished}
 use Rattle.rules.proofs.Tests.{and-both, true-false}
 use Rattle.place.specs.Heads.{recordHead}
-use Rattle.place.specs.Nesting.{Nests, around, heads, plug, rests}
+use Rattle.place.specs.Nesting.{Nests, around, plug}
 use Rattle.place.specs.TermPath.{Redex, TermWalk, entersAt, redex, redexLetAll, redexLetOne, redexRec, termPath, terms}
 use Rattle.place.specs.TermView.{TermAt}
-use Rattle.place.proofs.NestingLaws.{encode-plug, plug-at, plug-keeps, plug-nil, plug-snoc, size-plug}
+use Rattle.place.proofs.NestingLaws.{plug-at, plug-keeps, plug-nil, plug-snoc, size-plug}
 use Rattle.place.proofs.TermBytesLaws.{encodeTermRecord-letAll, length-encodeTermRecord}
 use Rattle.place.proofs.TermViewLaws.{as-letAll, letAll-view, term-index, term-room, term-same}
 
@@ -33,9 +33,6 @@ terms-nest = record {
       encodeTermRecord-letAll t u ∙ ap (λ (n : ℕ). recordHead 38 n ++ (encodeTermRecord t ++ encodeTermRecord u)) e;
   inside-le = λ u. omega arith;
 }
-
-pub encodeTermRecord-plug : (p : List Term) (t : Term) → encodeTermRecord (plug terms p t) ≡ heads terms p (4 + termSize t) ++ (encodeTermRecord t ++ rests terms p)
-encodeTermRecord-plug = encode-plug terms terms-nest
 
 pub termSize-plug : (p : List Term) (t : Term) → termSize (plug terms p t) ≡ termSize t + around terms p
 termSize-plug p t = omega (arith, size-plug terms terms-nest p t)
@@ -71,18 +68,6 @@ redex-is (letAll (tuple l) u) h = redexLetAll
 redex-is (letAll (letOne x s t) u) h = redexLetOne
 redex-is (letAll (letAll s t) u) h = redex-is (letAll s t) (λ e. absurd (omega arith))
 redex-is (letAll (rec x a l t) u) h = redexRec
-
-pub termPath-redex : (t : Term) → Redex t → termPath t ≡ []
-unfolding termPath
-termPath-redex _ redexLetOne = refl
-termPath-redex _ redexLetAll = refl
-termPath-redex _ redexRec = refl
-
-pub redex-redex : (t : Term) → Redex t → redex t ≡ t
-unfolding redex
-redex-redex _ redexLetOne = refl
-redex-redex _ redexLetAll = refl
-redex-redex _ redexRec = refl
 
 pub redex-kind : (t : Term) → Redex t → kindOfTerm t ≡ 36 → ⊥
 unfolding kindOfTerm

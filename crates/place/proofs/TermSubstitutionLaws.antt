@@ -67,9 +67,6 @@ num-stored {l} {p} {a} h v =
 
 -- SUBSTITUTION CHANGES NO LENGTH
 
-length-substituteAtom : (f : Substitution) (a : Atom) → length (encodeAtom a) ≡ length (encodeAtom (substituteAtom f a))
-length-substituteAtom f a = length-encodeAtom a ∙ sym (length-encodeAtom (substituteAtom f a))
-
 length-substituteAtoms : (f : Substitution) (ys : List Atom) → length (encodeAtoms ys) ≡ length (encodeAtoms (map (substituteAtom f) ys))
 length-substituteAtoms f ys = rw (length-encodeAtoms ys, length-encodeAtoms (map (substituteAtom f) ys), length-map ys (substituteAtom f))
 

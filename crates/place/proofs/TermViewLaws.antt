@@ -16,7 +16,7 @@ use Rattle.record.proofs.TermLaws.{length-encodeAtoms, length-encodeSimple}
 use Rattle.place.specs.At.{At}
 use Rattle.place.specs.Heads.{recordHead}
 use Rattle.place.specs.TermView.{AtomAt, AtomView, AtomsAt, LetAllView, LetAtomView, LetOfView, LetOneView, RecView, TermAt, TermView, TermsAt, TupleView, encodeTerms, isLetAllAt, isLetOneAt, isRecAt, isTupleAt, simpleKind, termsSize}
-use Rattle.place.proofs.AtLaws.{at-index, at-join, at-part, at-room, at-same, word-read}
+use Rattle.place.proofs.AtLaws.{at-index, at-part, at-room, at-same, word-read}
 use Rattle.place.proofs.HeadsLaws.{kind-at, leaf-read, length-at, length-recordHead}
 use Rattle.place.proofs.ProgramBytesLaws.{encodeLeaf-head}
 use Rattle.place.proofs.TermBytesLaws.{atomKind-range, encodeAtoms-cons, encodeSimple-plain, encodeSimple-pred, encodeSimple-succ, encodeTermRecord-head, encodeTermRecord-letAll, encodeTermRecord-letOne, encodeTermRecord-rec, encodeTermRecord-tuple, kind-num, kind-plain, kind-pred, kind-ref, kind-succ, kindOfTerm-range, length-encodeAtom, length-encodeTermRecord, simple-high, simple-low, simpleKind-range, termSize-letAll, termSize-letOne, termSize-rec, termSize-tuple}
@@ -390,15 +390,6 @@ terms-first {l} {p} {k} {t} {ts} h = (
     small = omega (arith, h .small);
   },
 )
-
-pub terms-join : {l : List ℕ} {p q k : ℕ} {t : Term} {ts : List Term} → TermAt l p k t → TermsAt l q k ts → p + (4 + termSize t) ≡ q → 4 + termSize t + termsSize ts < 65536
-    → TermsAt l p k (t ∷ ts)
-unfolding encodeTerms termsSize
-terms-join {p = p} {t = t} h g e s = record {
-  here = at-join (h .here) (g .here) (ap (λ (y : ℕ). p + y) (length-encodeTermRecord t) ∙ e);
-  words = (h .words, g .words);
-  small = s;
-}
 
 -- nothing is left exactly of none
 pub terms-end : (ts : List Term) (p to : ℕ) → p + termsSize ts ≡ to → (p ≡ to) ↔ (ts ≡ [])

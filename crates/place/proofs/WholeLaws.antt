@@ -7,9 +7,6 @@ use lib.Seq.{length-take-le}
 use native.Mathlib.Omega.{arith}
 use Rattle.buffer.specs.LittleEndian.{le, val}
 use Rattle.buffer.specs.Slice.{part, put}
-use Rattle.rules.specs.Scope.{BlockWithin}
-use Rattle.rules.specs.Sound.{SmallBlock, SoundTerm}
-use Rattle.rules.specs.Store.{fitsWord}
 use Rattle.rules.specs.Syntax.{Block, Term, empty, nest}
 use Rattle.record.specs.Header.{blockBytes, contentsAt, encodeProgram, encodeTerm, headed, termBytes}
 use Rattle.record.specs.Holding.{ProgramIn, TermIn}
@@ -17,7 +14,6 @@ use Rattle.record.specs.Program.{blockSize, encodeBlock}
 use Rattle.record.specs.Record.{encodeRecord}
 use Rattle.record.specs.Term.{encodeTermRecord, termSize}
 use Rattle.buffer.proofs.LittleEndianLaws.{length-le}
-use Rattle.buffer.proofs.SliceLaws.{length-put}
 use Rattle.record.proofs.HeaderLaws.{length-encodeProgram, length-encodeTerm}
 use Rattle.record.proofs.WordsLaws.{block-words, sound-words}
 use Rattle.rules.specs.FreeVariables.{Vars}
@@ -29,8 +25,8 @@ use Rattle.place.specs.ProgramView.{BlockAt}
 use Rattle.place.specs.TermPath.{terms}
 use Rattle.place.specs.TermView.{TermAt}
 use Rattle.place.specs.Whole.{blockAt, front, header, programFront, relengthAll, termFront}
-use Rattle.place.proofs.AtLaws.{at-part, split-take, take-split}
-use Rattle.place.proofs.HeadsLaws.{encodeRecord-head, length-at, length-recordHead, length-relength, put-length}
+use Rattle.place.proofs.AtLaws.{at-part, take-split}
+use Rattle.place.proofs.HeadsLaws.{encodeRecord-head, length-at, length-recordHead, put-length}
 use Rattle.place.proofs.NestingLaws.{encode-plug, length-heads, plug-nil, relength-shifted, size-plug}
 use Rattle.place.proofs.PathLaws.{blocks-nest}
 use Rattle.place.proofs.TermPathLaws.{terms-nest}
@@ -89,13 +85,6 @@ pub relengthAll-is : (f : ℕ → ℕ) (count : ℕ) (l : List ℕ) → relength
 unfolding relengthAll
 relengthAll-is f count l = refl
 
-pub length-relengthAll : (f : ℕ → ℕ) (count : ℕ) (l : List ℕ) → contentsAt + 4 * count ≤ length l → length (relengthAll f count l) ≡ length l
-unfolding relengthAll
-length-relengthAll f count l h =
-    let m : List ℕ = put l 0 (le 2 (f (val (part l 0 2)))) in
-    let e : length m ≡ length l = length-put l (le 2 (f (val (part l 0 2)))) 0 (rw (length-le 2 (f (val (part l 0 2)))) (omega arith)) in
-    length-relength f count contentsAt m (omega arith) ∙ e
-
 -- PROGRAMS
 
 -- the contents of a program's record are a block command with nothing behind it
@@ -151,19 +140,6 @@ module _ {k : ℕ} {P : Block} {buf : List ℕ} {used : ℕ} (h : ProgramIn k P 
         small = omega (arith, program-used, h .within);
       }
 
-pub program-in : (k : ℕ) (P : Block) (buf tail : List ℕ) (used : ℕ) → buf ≡ encodeProgram k P ++ tail → blockAt + blockSize P ≡ used → 1 ≤ k → k ≤ 16
-    → BlockWithin k P → SmallBlock fitsWord P → ProgramIn k P buf used
-program-in k P buf tail used e u lo hi v w =
-    let n : length (encodeProgram k P) ≡ used = length-encodeProgram k P ∙ u in
-    record {
-      within = rw (e, length-append (encodeProgram k P) tail, n) (omega arith);
-      k-low = lo;
-      k-high = hi;
-      bytes = split-take used buf (encodeProgram k P) tail e n;
-      variables = v;
-      literals = w;
-    }
-
 -- TERMS
 
 encodeTerm-headed : (k : ℕ) (t : Term) → encodeTerm k t ≡ headed 40 k (encodeTermRecord t)
@@ -201,15 +177,3 @@ module _ {S : Vars} {k : ℕ} {t : Term} {buf : List ℕ} {used : ℕ} (h : Term
         words = sound-words k S t (omega (arith, h .k-high)) (h .sound);
         small = omega (arith, term-used, h .within);
       }
-
-pub term-in : (S : Vars) (k : ℕ) (t : Term) (buf tail : List ℕ) (used : ℕ) → buf ≡ encodeTerm k t ++ tail → contentsAt + (4 + termSize t) ≡ used → 1 ≤ k → k ≤ 16
-    → SoundTerm fitsWord k S t → TermIn S k t buf used
-term-in S k t buf tail used e u lo hi v =
-    let n : length (encodeTerm k t) ≡ used = length-encodeTerm k t ∙ omega arith in
-    record {
-      within = rw (e, length-append (encodeTerm k t) tail, n) (omega arith);
-      k-low = lo;
-      k-high = hi;
-      bytes = split-take used buf (encodeTerm k t) tail e n;
-      sound = v;
-    }

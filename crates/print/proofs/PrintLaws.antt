@@ -1,6 +1,6 @@
 -- A turn of each loop that writes a part of the line: what is still to be written into the slice as it is now gives what was
 -- to be written at first.
-use Prim.Native.Nat.{_%_, _+_, _-_, _/_, _<_, _≤_, ℕ, suc}
+use Prim.Native.Nat.{_%_, _+_, _/_, _<_, _≤_, ℕ}
 use mathlib.Core.Path.{_≡_, ap, refl, sym, _∙_}
 use mathlib.Core.List.{_++_, List, [], _∷_, append-assoc}
 use native.Mathlib.Omega.{arith}

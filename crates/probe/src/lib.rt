@@ -1,7 +1,6 @@
 // What ./bench measures of the buffer layer: its moves, zeroing and copy for callers in other languages. A call whose places
 // do not lie within the slices does nothing. No crate is built upon this one.
 ghost use mathlib.Core.Path.{_≡_};
-ghost use lib.ListN.{length};
 ghost use Rattle.probe.specs.Probe.{inside, movedDown, movedUp, zeroed, copied};
 
 // Whether count places from at on are within len. The difference cannot overflow, where at + count could.

@@ -14,7 +14,7 @@ use Rattle.buffer.specs.LittleEndian.{val}
 use Rattle.buffer.specs.Slice.{part as slice}
 use Rattle.rules.proofs.Tests.{and-both}
 use Rattle.record.specs.Alone.{kindAlone, recordKind}
-use Rattle.record.specs.Reading.{Got, bind, fail, fromSome, got, then, word}
+use Rattle.record.specs.Reading.{bind, fail, fromSome, got, then, word}
 use Rattle.record.specs.Record.{Split, bad, cut, end, part, split}
 
 -- LISTS

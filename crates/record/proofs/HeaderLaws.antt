@@ -7,9 +7,8 @@ use lib.ListN.{drop, length, length-append, length-drop, take, take-append-drop}
 use lib.Seq.{drop-at, drop-drop, length-take-le, take-at}
 use native.Mathlib.Omega.{arith}
 use Rattle.buffer.specs.LittleEndian.{Bytes, le, val}
-use Rattle.rules.specs.Rules.{at}
 use Rattle.rules.specs.Syntax.{Block, Term}
-use Rattle.buffer.proofs.LittleEndianLaws.{bytes-drop, bytes-take, le-val, length-le, val-le, val-lt}
+use Rattle.buffer.proofs.LittleEndianLaws.{bytes-drop, bytes-take, le-val, length-le, val-le}
 use Rattle.record.specs.Header.{blockBytes, blockIn, contents, encodeProgram, encodeTerm, headed, kField, kindField, lengthField, termBytes, termIn}
 use Rattle.record.specs.Program.{BlockWords, blockSize, encodeBlock}
 use Rattle.record.specs.Reading.{atEnd, got, sub, then}
@@ -69,14 +68,6 @@ headed-fields r h n e =
     let s₂ : drop 2 r ≡ take 2 (drop 2 r) ++ drop 4 r = sym (take-append-drop 2 (drop 2 r)) ∙ ap (λ (y : List ℕ). take 2 (drop 2 r) ++ y) (drop-drop 2 2 r) in
     let s₃ : drop 4 r ≡ take 4 (drop 4 r) ++ drop 8 r = sym (take-append-drop 4 (drop 4 r)) ∙ ap (λ (y : List ℕ). take 4 (drop 4 r) ++ y) (drop-drop 4 4 r) in
     s₁ ∙ ap₂ (λ (x y : List ℕ). x ++ y) (a ∙ ap (le 2) m) (s₂ ∙ ap₂ (λ (x y : List ℕ). x ++ y) b (s₃ ∙ ap (λ (x : List ℕ). x ++ drop 8 r) c))
-
-pub kField-low : (r : List ℕ) → Bytes r → 8 ≤ length r → kField r < 4294967296
-unfolding kField
-kField-low r h n =
-    let l₄ : length (drop 4 r) ≡ length r - 4 = length-drop 4 r in
-    let l : length (take 4 (drop 4 r)) ≡ 4 = length-take-le 4 (drop 4 r) (omega arith) in
-    let v = val-lt (take 4 (drop 4 r)) (bytes-take 4 (drop 4 r) (bytes-drop 4 r h)) in
-    rw l at v
 
 -- THE CONTENTS
 

@@ -1,5 +1,5 @@
 -- Rows 1 to 5 by the places that code reads: one law for each way out of a check.
-use Prim.Native.Nat.{_-_, _<_, ℕ, _≤_}
+use Prim.Native.Nat.{_<_, ℕ, _≤_}
 use mathlib.Core.Path.{_≡_, ap, refl, sym, _∙_}
 use mathlib.Core.Logic.{inl, inr, _⊎_}
 use mathlib.Core.Bool.{Bool, false, not, true}

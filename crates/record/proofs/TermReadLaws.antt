@@ -4,21 +4,21 @@ use mathlib.Core.Path.{_≡_, ap, refl, sym, _∙_}
 use mathlib.Core.Bool.{Bool, false, true}
 use mathlib.Core.List.{List, [], _∷_}
 use mathlib.Core.Option.{Option, none, some}
-use borrow.Author.Tests.{eq-eqb, leb-false, leb-true, ne-eqb}
+use borrow.Author.Tests.{leb-false, leb-true}
 use lib.Dec.{eqb, leb}
 use lib.ListN.{drop, length, length-drop, take}
 use lib.Seq.{drop-drop, drop-length, length-take-le}
 use native.Mathlib.Omega.{arith}
 use Rattle.buffer.specs.LittleEndian.{val}
 use Rattle.buffer.specs.Slice.{part as slice}
-use Rattle.rules.specs.Syntax.{Atom, Simple, Term, letAll, letOne, num, plain, predOf, rec, ref, succOf, tuple}
+use Rattle.rules.specs.Syntax.{Atom, letAll, letOne, num, plain, predOf, rec, ref, succOf, tuple}
 use Rattle.record.specs.Alone.{kindAlone, onlySimple, onlyTuple, recordKind}
 use Rattle.record.specs.Header.{termIn}
-use Rattle.record.specs.Reading.{Got, RecordParts, anyRecord, anyRecordOf, atEnd, bind, fail, fromSome, got, leaf, leafOf, ofKind, pick, sub, subOf, then, word}
+use Rattle.record.specs.Reading.{Got, anyRecord, anyRecordOf, atEnd, bind, fail, fromSome, got, leaf, leafOf, ofKind, pick, sub, subOf, then, word}
 use Rattle.record.specs.Record.{Split, bad, end, part, split}
 use Rattle.record.specs.Term.{SimpleKind, TermKind, atomFrom, atomKind, atomNumber, decodeAtoms, decodeTerm, decodeTermKind, decodeTermStep, isAtom, isLetAll, isLetOne, isPred, isRec, isSucc, isTuple, lastTerm, notTerm, onlyAtom, plainOf, readAtom, readSimple, same, simpleBy, simpleFrom, simpleKindIf, termKind, termKindIf}
-use Rattle.record.proofs.AloneLaws.{Front, NoPart, bind-cong, bind-none, none-unless, recordKind-none, recordKind-split, slice-take, split-alone, split-front, split-none, split-record, then-fromSome, word-read, word-short}
-use Rattle.record.proofs.ReadingLaws.{atEnd-inv, bind-inv, fail-got, fromSome-got, leaf-length, leaf-parts, sub-part, then-inv, word-length}
+use Rattle.record.proofs.AloneLaws.{NoPart, bind-cong, bind-none, none-unless, recordKind-split, slice-take, split-alone, split-front, split-none, split-record, then-fromSome, word-read, word-short}
+use Rattle.record.proofs.ReadingLaws.{atEnd-inv, bind-inv, leaf-length, leaf-parts, sub-part, then-inv, word-length}
 use Rattle.record.proofs.RecordLaws.{split-length}
 use Rattle.record.proofs.TermLaws.{atomFrom-inv, decodeTerm-step}
 

@@ -1,8 +1,8 @@
 -- THE REFUSALS OF THE INPUT, one law for each way out.
 use Prim.Native.Nat.{_*_, _-_, _<_, ℕ, _≤_}
 use mathlib.Core.Path.{ap, refl, sym, _∙_, _≡_}
-use mathlib.Core.Bool.{Bool, false, not, true}
-use mathlib.Core.List.{_++_, List, [], _∷_}
+use mathlib.Core.Bool.{false, not, true}
+use mathlib.Core.List.{List, [], _∷_}
 use borrow.Author.Tests.{eq-eqb, le-ltb, lt-ltb, ne-eqb}
 use lib.Dec.{eqb, ltb}
 use lib.ListN.{length, take}
@@ -20,7 +20,7 @@ use Rattle.record.proofs.HeldLaws.{buffer-good}
 use Rattle.record.proofs.HoldingLaws.{check-program, program-k}
 use Rattle.record.proofs.RowLaws.{first-applies, first-none, first-skips, none-first}
 use Rattle.rules.specs.Syntax.{Block}
-use Rattle.report.specs.Line.{inputRows, kOfInput, programBuffer, recordOf, saidLength}
+use Rattle.report.specs.Line.{inputRows, kOfInput, recordOf, saidLength}
 use Rattle.report.specs.Reads.{RecordRead, WholeRecord}
 
 -- The row behind the record's own.

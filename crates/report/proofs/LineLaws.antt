@@ -1,7 +1,7 @@
 -- THE LINE, by what the calls answer.
-use Prim.Native.Nat.{_*_, _+_, _-_, _<_, suc, zero, ℕ, _≤_}
+use Prim.Native.Nat.{_*_, _+_, _-_, suc, zero, ℕ, _≤_}
 use mathlib.Core.Path.{ap, refl, sym, _∙_, _≡_}
-use mathlib.Core.Bool.{Bool, false, not, true, _||_}
+use mathlib.Core.Bool.{not, true, _||_}
 use mathlib.Core.List.{_++_, List, [], _∷_, append-nil}
 use borrow.Author.Tests.{eq-eqb, eqb-true, ltb-false, not-false}
 use lib.Dec.{eqb, ltb}
@@ -11,8 +11,8 @@ use native.Mathlib.Omega.{arith}
 use Rattle.buffer.specs.LittleEndian.{val}
 use Rattle.buffer.specs.Slice.{part, put, zeros}
 use Rattle.buffer.proofs.SliceLaws.{length-zeros}
-use Rattle.record.specs.Answers.{Checked, Wrote, checkProgramRows, checkedBy, padded, wroteBy}
-use Rattle.record.specs.Rows.{NoRow, Row, badBlock, badBuffer, badHeader, badK, blockOutside, firstRow, programRows, row, tooLong}
+use Rattle.record.specs.Answers.{Checked, Wrote, checkProgramRows, padded}
+use Rattle.record.specs.Rows.{NoRow, badBlock, badBuffer, badHeader, badK, blockOutside, firstRow, row, tooLong}
 use Rattle.record.proofs.AnswerLaws.{checked-accepted, checked-number, wrote-accepted}
 use Rattle.record.proofs.PaddedLaws.{padded-zeros}
 use Rattle.record.proofs.CheckedRowLaws.{first-before}
@@ -25,7 +25,7 @@ use Rattle.term.specs.Calls.{substituteCall, tooShort, translateCall, translate
 use Rattle.term.proofs.CallLaws.{translate-number}
 use Rattle.print.specs.Words.{ranLine, refusedLine}
 use Rattle.report.specs.Line.{inputRows, kOfInput, line, lineBy, lineRows, programBudget, programBuffer, recordOf, reducerFrom, reducerRun, runsLine, saidLength, stepperRun, storeOf, substitutedFrom, termOfInput, valuesIn}
-use Rattle.report.specs.Reads.{Reads, RecordRead, WholeRecord}
+use Rattle.report.specs.Reads.{Reads, WholeRecord}
 use Rattle.report.proofs.InputLaws.{values-within}
 use Rattle.report.proofs.InputRowsLaws.{InputChecked, record-buffer, row6, rows-behind, said-read}
 

@@ -1,7 +1,7 @@
 -- THE PROGRAM'S LINE (01 "Bench loads", last part): from the entire standard input to the line printed.
 use Prim.Native.Nat.{_*_, _-_, suc, zero, ℕ}
 use mathlib.Core.Bool.{not}
-use mathlib.Core.List.{_++_, List, [], _∷_}
+use mathlib.Core.List.{List, [], _∷_}
 use lib.Dec.{eqb, ltb}
 use lib.ListN.{drop, length, replicate, take}
 use Rattle.buffer.specs.LittleEndian.{val}

@@ -1,7 +1,7 @@
 -- A run made step by step, of either machine: what is still to be run from the state reached, with the budget left, comes to
 -- the whole run. Laws for the start, a step, and the end.
 use Prim.Native.Nat.{_+_, _-_, _<_, suc, ℕ, _≤_}
-use mathlib.Core.Path.{ap, refl, sym, _∙_, _≡_}
+use mathlib.Core.Path.{ap, sym, _∙_, _≡_}
 use mathlib.Core.Bool.{Bool, cond, false, true}
 use mathlib.Core.List.{List}
 use borrow.Author.Tests.{eqb-true}
@@ -19,7 +19,7 @@ use Rattle.run.specs.declared.Tally.{Tally}
 use Rattle.run.specs.RanFrom.{FurtherIn}
 use Rattle.run.specs.Represents.{answered, asOutcome}
 use Rattle.run.specs.RunAnswer.{accepted, outcomeNumber, roomFor, roomReads, runIn}
-use Rattle.run.specs.Tally.{advanced, endsWith, isSpent, started}
+use Rattle.run.specs.Tally.{advanced, endsWith, started}
 use Rattle.run.proofs.RanLaws.{fits-room, room-fits}
 use Rattle.run.proofs.RepresentsLaws.{answered-accepted}
 use Rattle.run.proofs.TallyLaws.{advanced-total, not-spent, started-total}

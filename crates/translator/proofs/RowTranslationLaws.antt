@@ -5,7 +5,7 @@ use mathlib.Core.List.{_++_, List, append-assoc}
 use lib.ListN.{length}
 use native.Mathlib.Omega.{arith}
 use Rattle.buffer.specs.LittleEndian.{le}
-use Rattle.rules.specs.Syntax.{Block, Bound, Expr, Term, assign, empty, loop, nest, rec, tuple}
+use Rattle.rules.specs.Syntax.{Block, Bound, Expr, Term, assign, empty, loop, nest, rec}
 use Rattle.rules.specs.Translation.{all, atomOf, simpleOf, translate}
 use Rattle.record.specs.Program.{blockSize}
 use Rattle.record.specs.Term.{encodeAtom, encodeSimple, encodeTermRecord, simpleSize, termSize}

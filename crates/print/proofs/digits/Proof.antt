@@ -8,7 +8,7 @@ use mathlib.Core.Path.{_≡_}
 use Prim.Native.Nat.{_+_}
 use lib.ListN.{length}
 use Rattle.print.specs.Decimal.{decimal}
-use Rattle.print.proofs.DecimalLaws.{digits-large, digits-small, digits-some, digits-word}
+use Rattle.print.proofs.DecimalLaws.{digits-large, digits-small, digits-word}
 
 abbrev Inv-loop : tie.InvT-loop
 Inv-loop n left₀ count₀ left count = count + length (decimal left) ≡ length (decimal n) + 1

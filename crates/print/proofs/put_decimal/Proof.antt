@@ -10,7 +10,7 @@ use Prim.Native.Nat.{_+_, _<_, _/_}
 use lib.ListN.{length, length-set}
 use Rattle.buffer.specs.Slice.{put}
 use Rattle.print.specs.Decimal.{decimal}
-use Rattle.print.proofs.DecimalLaws.{digits-large, digits-small, digits-some, digits-word}
+use Rattle.print.proofs.DecimalLaws.{digits-large, digits-some}
 use Rattle.print.proofs.PrintLaws.{digit-last, digit-turn}
 use borrow.Author.Needs.{needs}
 

@@ -6,7 +6,6 @@ use Rattle.print.proofs.put_outcome.Reads as reads
 use Rattle.print.proofs.put_outcome.Lts as lts
 use Rattle.print.proofs.put_word.Reads as put-word-reads
 use native.Mathlib.Omega.{arith}
-use mathlib.Core.Path.{refl}
 use Rattle.print.specs.Words.{outcomeWord}
 
 -- src/print.rt:76:39

@@ -7,8 +7,8 @@ use Rattle.print.proofs.put_ran.Lts as lts
 use Rattle.print.proofs.put_run.Reads as put-run-reads
 use Rattle.print.proofs.put_values.Reads as put-values-reads
 use native.Mathlib.Omega.{arith}
-use mathlib.Core.Path.{_≡_, _∙_}
-use lib.ListN.{length, length-set}
+use mathlib.Core.Path.{_∙_}
+use lib.ListN.{length-set}
 use Rattle.print.proofs.PrintLaws.{ran-put}
 use Rattle.run.specs.Represents.{asRunAnswer}
 

@@ -10,7 +10,7 @@ use mathlib.Core.Path.{_≡_, _∙_, ap, refl, sym}
 use Prim.Native.Nat.{_+_, _*_, _-_, _≤_}
 use lib.ListN.{drop, length}
 use Rattle.buffer.specs.Slice.{put}
-use Rattle.print.specs.Words.{spaced, spacedAll}
+use Rattle.print.specs.Words.{spacedAll}
 use Rattle.print.proofs.PrintLaws.{values-done, values-length, values-none, values-turn}
 
 abbrev Inv-loop : tie.InvT-loop

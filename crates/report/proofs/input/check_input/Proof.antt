@@ -9,7 +9,6 @@ use Rattle.program_checker.proofs.check_program.Reads as check-program-reads
 use Rattle.report.proofs.input.refused.Reads as refused-reads
 use native.Mathlib.Omega.{arith}
 use mathlib.Core.Path.{_∙_, sym}
-use lib.ListN.{length, take}
 use lib.Seq.{length-take-le}
 use Rattle.checker.specs.Answer.{asChecked}
 use Rattle.report.proofs.InputRowsLaws.{check-refuses, input-accepted, record-read, rest-refuses, said-long, said-more, said-read, under-two, whole-read, checked-k, not-accepted}

@@ -11,12 +11,11 @@ use Rattle.report.proofs.line.run_both.Reads as run-both-reads
 use Rattle.print.proofs.put_refused.Reads as put-refused-reads
 use Rattle.term.proofs.translate.translate.Reads as translate-reads
 use native.Mathlib.Omega.{arith}
-use mathlib.Core.Path.{_∙_, _≡_, ap, sym}
+use mathlib.Core.Path.{_∙_, ap, sym}
 use Prim.Native.Nat.{ℕ}
-use lib.ListN.{length, take}
 use lib.Seq.{length-take-le}
 use Rattle.checker.specs.Answer.{asChecked}
-use Rattle.report.proofs.LineLaws.{input-passes, input-refused, noValues, runs-line, said-is, translate-refuses, values-made, values-there}
+use Rattle.report.proofs.LineLaws.{input-passes, input-refused, runs-line, said-is, translate-refuses, values-made, values-there}
 use Rattle.report.specs.Line.{programBudget, programBuffer, reducerFrom, runsLine, valuesIn}
 use Rattle.term.specs.Answer.{asWrote}
 use Rattle.stepper.specs.RunStepper.{runStepper}

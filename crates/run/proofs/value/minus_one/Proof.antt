@@ -3,7 +3,7 @@ use Rattle.run.proofs.value.minus_one.Statement.{statement}
 use Rattle.run.proofs.value.minus_one.Tie as tie
 use Rattle.run.proofs.value.minus_one.Reads as reads
 use Rattle.run.proofs.value.minus_one.Lts as lts
-use mathlib.Core.Path.{_≡_, sym, ap, _∙_}
+use mathlib.Core.Path.{sym, ap, _∙_}
 use Rattle.rules.proofs.StoreLaws.{minusOne-less, minusOne-zero}
 use Rattle.rules.specs.Store.{minusOne}
 
