@@ -1,8 +1,8 @@
 -- Each arm knows its rule, and there the definition computes.
 use borrow.Author.Needs.{needs}
-use Rattle.stepper.proofs.outcome_of.Statement.{statement}
-use Rattle.stepper.proofs.outcome_of.Tie as tie
-use Rattle.stepper.specs.Running.{planReads}
+use Rattle.plan.proofs.outcome_of.Statement.{statement}
+use Rattle.plan.proofs.outcome_of.Tie as tie
+use Rattle.plan.specs.Plan.{planReads}
 
 add-room-outcome : tie.Need-add-room-outcome
 add-room-outcome c = search needs
