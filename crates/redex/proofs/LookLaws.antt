@@ -22,8 +22,8 @@ use Rattle.place.proofs.TermPathLaws.{plug-redex, redex-at}
 use Rattle.place.proofs.TermViewLaws.{as-letAll, as-letAtom, as-letOne, as-letPred, as-letSucc, as-rec, as-tuple, simple-kind, term-index, term-same}
 use Rattle.place.proofs.WholeLaws.{term-at}
 use Rattle.plan.specs.Plan.{plan, planRaise}
-use Rattle.redex.specs.Plan.{planLetOne, planOf, planRec, planRedex}
 use Rattle.plan.specs.declared.Rule.the-variants.{Bind, Evaluate, Finished, Leave, Stop, Unroll}
+use Rattle.redex.specs.Plan.{planLetOne, planOf, planRec, planRedex}
 
 -- NUMERALS: the atoms of a closed term's redex
 

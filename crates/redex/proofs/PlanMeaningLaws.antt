@@ -17,10 +17,10 @@ use Rattle.place.proofs.TermBytesLaws.{atomKind-range, simple-high, simple-low,
 use Rattle.place.proofs.TermPathLaws.{plug-kind, plug-redex, redex-is, redex-kind, reduce-letAll-tuple, reduce-redex, termSize-plug}
 use Rattle.record.proofs.HeaderLaws.{length-encodeTerm}
 use Rattle.record.proofs.WordsLaws.{termSize-substitute}
-use Rattle.plan.proofs.TellsLaws.{Tells, tells-around, tells-raise}
-use Rattle.redex.specs.Plan.{planLetOne, planOf, planRec, planRedex}
 use Rattle.plan.specs.declared.Plan.{Plan}
 use Rattle.plan.specs.declared.Rule.{Rule}
+use Rattle.plan.proofs.TellsLaws.{Tells, tells-around, tells-raise}
+use Rattle.redex.specs.Plan.{planLetOne, planOf, planRec, planRedex}
 
 -- of a term that the rules act on
 abbrev TellsRedex : Term → Plan → Rule → Type 0

@@ -14,10 +14,10 @@ use Rattle.record.proofs.AnswerLaws.{length-padded}
 use Rattle.record.proofs.HoldingLaws.{padded-term, term-size}
 use Rattle.record.proofs.PaddedLaws.{cleared-padded}
 use Rattle.redex.specs.Plan.{planOf}
+use Rattle.plan.specs.Plan.{planReads}
 use Rattle.plan.specs.declared.Plan.{Plan}
 use Rattle.plan.proofs.TellsLaws.{tells-further, tells-reads}
 use Rattle.redex.proofs.PlanMeaningLaws.{plan-tells}
-use Rattle.plan.specs.Plan.{planReads}
 use Rattle.reducing.specs.Perform.{Performed, Ready}
 use Rattle.reducing.specs.State.{Stands}
 use Rattle.reducing.proofs.PerformLaws.{plan-sums}

@@ -39,10 +39,10 @@ use Rattle.place.proofs.TermPutLaws.{put-letAll-last, put-letOne-last}
 use Rattle.place.proofs.TermViewLaws.{letAll-view, letOne-view, term-index, term-read, term-same}
 use Rattle.place.proofs.WholeLaws.{encodeTerm-relength, length-termFront}
 use Rattle.plan.specs.Plan.{Moves}
+use Rattle.plan.specs.declared.Plan.{Plan}
 use Rattle.reducing.specs.Perform.{Edited, Performed, PlanFits, Ready, filledAt, numeralAt, spread, stoppedAt, unrolledAt}
 use Rattle.reducing.specs.State.{Stands}
 use Rattle.redex.specs.Plan.{planOf}
-use Rattle.plan.specs.declared.Plan.{Plan}
 use Rattle.reducing.proofs.EditedLaws.{unrolled-behind}
 use Rattle.reducing.proofs.PlanLaws.{Planned, planned-redex, plannedFinished, plannedLeave, plannedBind, plannedEvaluate, plannedOver, plannedStop, plannedUnroll, redex-reduces, size-plain, termSize-plain}
 use Rattle.reducing.proofs.StateLaws.{redex-bytes, redex-room, redex-sound, redex-stands, redex-used, stands-after, zeros-behind}

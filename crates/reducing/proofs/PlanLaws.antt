@@ -17,9 +17,9 @@ use Rattle.place.specs.TermView.{simpleKind}
 use Rattle.place.proofs.TermBytesLaws.{encodeSimple-plain, length-encodeAtom, simple-high, termSize-letOne}
 use Rattle.place.proofs.TermPathLaws.{plug-redex, redex-kind, reduce-letAll-tuple, reduce-plug}
 use Rattle.plan.specs.Plan.{plan, planRaise}
-use Rattle.redex.specs.Plan.{planLetOne, planRec, planRedex}
 use Rattle.plan.specs.declared.Plan.{Plan}
 use Rattle.plan.specs.declared.Rule.the-variants.{Bind, Evaluate, Finished, Leave, Over, Stop, Unroll}
+use Rattle.redex.specs.Plan.{planLetOne, planRec, planRedex}
 
 -- WHAT A LET-ONE BINDS has 8 bytes where it is an atom, and else 12
 

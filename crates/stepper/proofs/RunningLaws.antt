@@ -27,11 +27,11 @@ use Rattle.run.specs.RunAnswer.{accepted}
 use Rattle.run.specs.Tally.{advanced, endsWith, started}
 use Rattle.run.proofs.GoingLaws.{Going, going-answers, going-ends, going-further, going-on, going-start, reads}
 use Rattle.plan.specs.Plan.{planReads}
+use Rattle.plan.specs.declared.Plan.{Plan}
+use Rattle.plan.proofs.TellsLaws.{tells-further, tells-reads}
 use Rattle.stepping.specs.Perform.{Performed, Ready}
 use Rattle.stepping.specs.Plan.{planOf}
 use Rattle.stepping.specs.State.{Stands, configBytes}
-use Rattle.plan.specs.declared.Plan.{Plan}
-use Rattle.plan.proofs.TellsLaws.{tells-further, tells-reads}
 use Rattle.stepping.proofs.PlanMeaningLaws.{plan-tells}
 use Rattle.stepping.proofs.PerformLaws.{plan-sums}
 use Rattle.stepper.specs.RunStepper.{steppedTo, steps}

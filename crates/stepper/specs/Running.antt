@@ -1,4 +1,4 @@
--- The stepper's run as it is made: what the rows let through, and what a state reads by the plan of its next step.
+-- The stepper's run as it is made: what the rows let through, and the run of it.
 use Prim.Native.Nat.{ℕ, _≤_}
 use mathlib.Core.Path.{_≡_}
 use mathlib.Core.List.{List}

@@ -24,8 +24,8 @@ use Rattle.place.proofs.ProgramBytesLaws.{blockSize-zero, kind-dec, kind-inc, k
 use Rattle.place.proofs.ProgramViewLaws.{assign-view, loop-view}
 use Rattle.place.proofs.WholeLaws.{program-at, program-used}
 use Rattle.plan.specs.Plan.{plan, planRaise}
-use Rattle.stepping.specs.Plan.{planAssign, planLoop, planOf, planSpot}
 use Rattle.plan.specs.declared.Rule.the-variants.{Bind, Evaluate, Finished, Leave, Stop, Unroll}
+use Rattle.stepping.specs.Plan.{planAssign, planLoop, planOf, planSpot}
 
 -- ASSIGNMENTS, by the expression's kind and number
 

@@ -30,10 +30,10 @@ use Rattle.place.proofs.ProgramBytesLaws.{blockSize-assign, blockSize-empty, bl
 use Rattle.place.proofs.ProgramEditLaws.{assign-gone, assign-literal, loop-emptied, loop-unrolled, nest-gone}
 use Rattle.place.proofs.WholeLaws.{encodeProgram-relength, length-programFront}
 use Rattle.plan.specs.Plan.{Moves}
+use Rattle.plan.specs.declared.Plan.{Plan}
 use Rattle.stepping.specs.Perform.{Performed, PlanFits, Ready, edited, spread, stoppedAt, unrolledAt, valued}
 use Rattle.stepping.specs.Plan.{planOf}
 use Rattle.stepping.specs.State.{Stands, configBytes}
-use Rattle.plan.specs.declared.Plan.{Plan}
 use Rattle.stepping.proofs.EditedLaws.{unrolled-behind}
 use Rattle.stepping.proofs.PlanLaws.{Planned, plannedFinished, plannedEvaluate, plannedOver, plannedLeave, plannedStop, plannedBind, plannedUnroll, planned-block}
 use Rattle.stepping.proofs.StateLaws.{spot-bytes, spot-room, spot-used, stands-after, zeros-behind}

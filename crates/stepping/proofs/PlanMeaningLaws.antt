@@ -15,11 +15,11 @@ use Rattle.rules.specs.Syntax.{Block, Bound, Config, Expr, assign, dec, empty, 
 use Rattle.place.proofs.PathLaws.{blockSize-plug, plug-spot, spot-is, step-nest-empty, step-spot}
 use Rattle.place.proofs.ProgramBytesLaws.{blockSize-assign, blockSize-empty, blockSize-loop, blockSize-nest}
 use Rattle.record.proofs.HeaderLaws.{length-encodeProgram}
-use Rattle.stepping.specs.State.{configBytes}
-use Rattle.plan.proofs.TellsLaws.{Tells, tells-around, tells-raise}
-use Rattle.stepping.specs.Plan.{planAssign, planLoop, planOf, planSpot}
 use Rattle.plan.specs.declared.Plan.{Plan}
 use Rattle.plan.specs.declared.Rule.{Rule}
+use Rattle.plan.proofs.TellsLaws.{Tells, tells-around, tells-raise}
+use Rattle.stepping.specs.State.{configBytes}
+use Rattle.stepping.specs.Plan.{planAssign, planLoop, planOf, planSpot}
 
 -- of a block whose first command the rules act on
 abbrev TellsSpot : List ℕ → Block → Plan → Rule → Type 0

@@ -13,12 +13,12 @@ use Rattle.place.specs.Edit.{lead, leafBytes, removed}
 use Rattle.place.specs.Heads.{recordHead}
 use Rattle.record.specs.Answers.{padded}
 use Rattle.record.specs.Header.{contentsAt}
-use Rattle.stepping.specs.Plan.{planOf}
-use Rattle.stepping.specs.State.{Stands, configBytes}
 use Rattle.plan.specs.Plan.{Moves}
 use Rattle.plan.specs.declared.Plan.{Plan}
 use Rattle.plan.specs.declared.Rule.{Rule}
 use Rattle.plan.specs.declared.Rule.the-variants.{Bind, Evaluate, Finished, Leave, Over, Stop, Unroll}
+use Rattle.stepping.specs.Plan.{planOf}
+use Rattle.stepping.specs.State.{Stands, configBytes}
 
 -- THE BYTES
 

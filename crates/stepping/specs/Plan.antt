@@ -12,7 +12,7 @@ use Rattle.plan.specs.Plan.{plan, planRaise}
 use Rattle.plan.specs.declared.Plan.{Plan}
 use Rattle.plan.specs.declared.Rule.the-variants.{Bind, Evaluate, Finished, Leave, Stop, Unroll}
 
--- Of an assignment, by its expression: a stored value takes its 16 bytes away, and a literal has no other length.
+-- Of an assignment: its 16 bytes go where its value is stored, and a literal is as long as the expression that becomes it.
 unfoldable pub planAssign : ℕ → ℕ → ℕ → Expr → List ℕ → Plan
 planAssign levels at x (lit n) s = plan levels at Bind x n 0 16
 planAssign levels at x (var y) s = plan levels at Bind x (lookup s y) 0 16

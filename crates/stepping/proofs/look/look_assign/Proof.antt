@@ -10,9 +10,9 @@ use Rattle.run.proofs.value.value_of.Reads as value-of-reads
 use mathlib.Core.Path.{_≡_, refl, sym, ap, ap₂, _∙_}
 use Prim.Native.Nat.{ℕ, suc}
 use native.Mathlib.Omega.{arith}
+use Rattle.plan.specs.Plan.{plan, planRaise}
 use Rattle.plan.specs.declared.Rule.the-variants.{Bind, Evaluate}
 use Rattle.rules.specs.Store.{fitsWord, lookup, minusOne}
-use Rattle.plan.specs.Plan.{plan, planRaise}
 use Rattle.place.proofs.ProgramBytesLaws.{exprKind-range}
 use Rattle.record.specs.Program.{exprKind, exprNumber}
 use Rattle.stepping.proofs.LookLaws.{assign-read, plan-dec, plan-inc, plan-lit, plan-var}

@@ -4,8 +4,8 @@ use Rattle.stepping.proofs.perform.keep_value.Statement.{statement}
 use Rattle.stepping.proofs.perform.keep_value.Tie as tie
 use mathlib.Core.Path.{_∙_, ap, subst, sym}
 use lib.ListN.{length}
-use Rattle.stepping.specs.Perform.{ValueFits, valued}
 use Rattle.plan.specs.declared.Rule.{Rule}
+use Rattle.stepping.specs.Perform.{ValueFits, valued}
 
 enum-told : tie.Need-enum-told
 enum-told c = search needs
