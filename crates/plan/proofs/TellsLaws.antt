@@ -1,7 +1,7 @@
 -- What a plan tells of the next step, before it is made: finished, over, or the next state and its length. Of either machine: f
 -- is its step, `size` the length of a state.
 use Prim.Native.Nat.{ℕ, _+_, _-_, _≤_}
-use mathlib.Core.Path.{_≡_, _∙_, ap, refl}
+use mathlib.Core.Path.{_≡_, _∙_, ap}
 use mathlib.Core.Bool.{Bool, cond, false, true}
 use mathlib.Core.List.{List}
 use lib.ListN.{length}
@@ -35,25 +35,17 @@ unfolding planRaise
 tells-raise f size a b levels at x n down true e s = (b, e, omega arith)
 tells-raise f size a b levels at x n down false e s = e
 
--- OF A STATE a whose step is that of b, and which is longer by what stands around b: the plan of b is that of a
+-- OF A STATE a whose step is that of b inside it: what the plan tells of b it tells of a. `part` is the length of what is inside,
+-- and what stands around it keeps its length.
 module _ {A : Type 0} (f : A → Answer A) (part size : A → ℕ) (g : A → A) (a b : A) (is : f a ≡ onNext g (f b)) (sizes : (c : A) → size (g c) + part b ≡ size a + part c) (q : Plan) where
   next-around : NextBy f part b q → NextBy f size a q
-  next-around h = (g (h .0), is ∙ ap (onNext g) (h .1) ∙ goes (h .0), omega (arith, sizes (h .0), h .2))
-    where
-      goes : (c : A) → onNext g (next c) ≡ next (g c)
-      goes c = unfold onNext in refl
-
-  over-around : f b ≡ over → f a ≡ over
   unfolding onNext
-  over-around h = is ∙ ap (onNext g) h
-
-  finished-around : (vs : List ℕ) → f b ≡ finished vs → f a ≡ finished vs
-  unfolding onNext
-  finished-around vs h = is ∙ ap (onNext g) h
+  next-around h = (g (h .0), is ∙ ap (onNext g) (h .1), omega (arith, sizes (h .0), h .2))
 
   pub tells-around : (r : Rule) → Tells f part b q r → Tells f size a q r
-  tells-around Finished h = (h .0, finished-around (h .0) (h .1))
-  tells-around Over h = over-around h
+  unfolding onNext
+  tells-around Finished h = (h .0, is ∙ ap (onNext g) (h .1))
+  tells-around Over h = is ∙ ap (onNext g) h
   tells-around Bind h = next-around h
   tells-around Evaluate h = next-around h
   tells-around Leave h = next-around h

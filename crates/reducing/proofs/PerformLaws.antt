@@ -44,7 +44,7 @@ use Rattle.reducing.specs.Perform.{Edited, Performed, PlanFits, Ready, f
 use Rattle.reducing.specs.State.{Stands}
 use Rattle.redex.specs.Plan.{planOf}
 use Rattle.reducing.proofs.EditedLaws.{unrolled-behind}
-use Rattle.reducing.proofs.PlanLaws.{Planned, planned-redex, plannedFinished, plannedLeave, plannedBind, plannedEvaluate, plannedOver, plannedStop, plannedUnroll, redex-reduces, size-plain, termSize-plain}
+use Rattle.reducing.proofs.PlanLaws.{Planned, planned-redex, plannedBind, plannedEvaluate, plannedFinished, plannedLeave, plannedOver, plannedStop, plannedUnroll, redex-reduces, size-plain, termSize-plain}
 use Rattle.reducing.proofs.StateLaws.{redex-bytes, redex-room, redex-sound, redex-stands, redex-used, stands-after, zeros-behind}
 
 module _ {k : ℕ} {t : Term} {l : List ℕ} {used : ℕ} (h : Stands k t l used) where

@@ -35,7 +35,7 @@ use Rattle.stepping.specs.Perform.{Performed, PlanFits, Ready, edited, s
 use Rattle.stepping.specs.Plan.{planOf}
 use Rattle.stepping.specs.State.{Stands, configBytes}
 use Rattle.stepping.proofs.EditedLaws.{unrolled-behind}
-use Rattle.stepping.proofs.PlanLaws.{Planned, plannedFinished, plannedEvaluate, plannedOver, plannedLeave, plannedStop, plannedBind, plannedUnroll, planned-block}
+use Rattle.stepping.proofs.PlanLaws.{Planned, planned-block, plannedBind, plannedEvaluate, plannedFinished, plannedLeave, plannedOver, plannedStop, plannedUnroll}
 use Rattle.stepping.proofs.StateLaws.{spot-bytes, spot-room, spot-used, stands-after, zeros-behind}
 
 -- the step at the end of the path is the program's
