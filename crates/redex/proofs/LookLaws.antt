@@ -1,8 +1,7 @@
 -- The plan by what code reads of the redex.
-use Prim.Native.Nat.{_*_, _+_, _<_, _≤_, suc, zero, ℕ}
+use Prim.Native.Nat.{_*_, _+_, _≤_, suc, zero, ℕ}
 use mathlib.Core.Path.{ap, ap₂, refl, subst, sym, _∙_, _≡_}
 use mathlib.Core.List.{List}
-use borrow.Author.Tests.{le-ltb}
 use lib.ListN.{length}
 use native.Mathlib.Omega.{arith}
 use Rattle.buffer.specs.LittleEndian.{val}
@@ -22,9 +21,9 @@ use Rattle.place.proofs.TermBytesLaws.{atomKind-range, kind-num, kind-ref, simp
 use Rattle.place.proofs.TermPathLaws.{plug-redex, redex-at}
 use Rattle.place.proofs.TermViewLaws.{as-letAll, as-letAtom, as-letOne, as-letPred, as-letSucc, as-rec, as-tuple, simple-kind, term-index, term-same}
 use Rattle.place.proofs.WholeLaws.{term-at}
-use Rattle.rules.proofs.StoreLaws.{below-fitsWord}
-use Rattle.redex.specs.Plan.{plan, planLetOne, planOf, planRaise, planRec, planRedex}
-use Rattle.redex.specs.declared.Rule.the-variants.{Finished, LetAll, LetOne, Numeral, Over, Stop, Unroll}
+use Rattle.plan.specs.Plan.{plan, planRaise}
+use Rattle.plan.specs.declared.Rule.the-variants.{Bind, Evaluate, Finished, Leave, Stop, Unroll}
+use Rattle.redex.specs.Plan.{planLetOne, planOf, planRec, planRedex}
 
 -- NUMERALS: the atoms of a closed term's redex
 
@@ -41,18 +40,6 @@ closed-number : (k : ℕ) (a : Atom) → SoundAtom fitsWord k noVars a → atomN
 unfolding valueOf
 closed-number k a h = sym (ap valueOf (kind-num a (closed-kind k a h)))
 
--- SUCC, where the next value is too large and where it is not
-
-pub raise-over : (levels at x n : ℕ) → n ≡ 4294967295 → plan levels at Over x 0 0 0 ≡ planRaise levels at x (suc n) (fitsWord (suc n))
-unfolding planRaise fitsWord
-raise-over levels at x n e = sym (ap (planRaise levels at x (suc n)) (le-ltb (suc n) 4294967296 (omega arith)))
-
-pub raise-numeral : (levels at x n w : ℕ) → w ≡ n + 1 → w < 4294967296 → plan levels at Numeral x w 0 4 ≡ planRaise levels at x (suc n) (fitsWord (suc n))
-unfolding planRaise
-raise-numeral levels at x n w q b =
-    let m : w ≡ suc n = omega arith in
-    ap (λ (y : ℕ). plan levels at Numeral x y 0 4) m ∙ sym (ap (planRaise levels at x (suc n)) (below-fitsWord (suc n) (omega arith)))
-
 -- THE REDEX, by the kinds read
 
 simple-least : (s : Simple) → 8 ≤ simpleSize s
@@ -68,20 +55,20 @@ module _ {l : List ℕ} {at k : ℕ} {t : Term} (h : TermAt l at k t) where
     one-room = let v = as-letOne h one in omega (arith, v .room, v .size, simple-least (v .bound))
 
     module _ (c : SoundTerm fitsWord k noVars t) (levels x : ℕ) (ex : x ≡ val (part l (at + 4) 4)) where
-      pub let-atom : val (part l (at + 10) 2) ≡ 32 → (n : ℕ) → n ≡ val (part l (at + 12) 4) → plan levels at LetOne x n 0 16 ≡ planRedex levels at t
+      pub let-atom : val (part l (at + 10) 2) ≡ 32 → (n : ℕ) → n ≡ val (part l (at + 12) 4) → plan levels at Bind x n 0 16 ≡ planRedex levels at t
       unfolding planRedex planLetOne
       let-atom e n en =
           let v = as-letAtom h one (omega arith) in
           let w = subst (SoundTerm fitsWord k noVars) (v .is) c in
-          ap₂ (λ (m d : ℕ). plan levels at LetOne m d 0 16) (ex ∙ v .variable-read) (en ∙ v .number-read ∙ closed-number k (v .atom) (w .1))
+          ap₂ (λ (m d : ℕ). plan levels at Bind m d 0 16) (ex ∙ v .variable-read) (en ∙ v .number-read ∙ closed-number k (v .atom) (w .1))
           ∙ sym (ap (planRedex levels at) (v .is))
 
-      pub let-pred : val (part l (at + 10) 2) ≡ 35 → (n : ℕ) → n ≡ val (part l (at + 16) 4) → plan levels at Numeral x (minusOne n) 0 4 ≡ planRedex levels at t
+      pub let-pred : val (part l (at + 10) 2) ≡ 35 → (n : ℕ) → n ≡ val (part l (at + 16) 4) → plan levels at Evaluate x (minusOne n) 0 4 ≡ planRedex levels at t
       unfolding planRedex planLetOne
       let-pred e n en =
           let v = as-letPred h one e in
           let w = subst (SoundTerm fitsWord k noVars) (v .is) c in
-          ap₂ (λ (m d : ℕ). plan levels at Numeral m (minusOne d) 0 4) (ex ∙ v .variable-read) (en ∙ v .number-read ∙ closed-number k (v .atom) (w .1))
+          ap₂ (λ (m d : ℕ). plan levels at Evaluate m (minusOne d) 0 4) (ex ∙ v .variable-read) (en ∙ v .number-read ∙ closed-number k (v .atom) (w .1))
           ∙ sym (ap (planRedex levels at) (v .is))
 
       -- a variable would be free
@@ -95,12 +82,12 @@ module _ {l : List ℕ} {at k : ℕ} {t : Term} (h : TermAt l at k t) where
       succ-kind a b = omega (arith, simple-kind h one, not-open)
 
       pub let-succ : (val (part l (at + 10) 2) ≡ 32 → ⊥) → (val (part l (at + 10) 2) ≡ 35 → ⊥) → (n : ℕ) → n ≡ val (part l (at + 16) 4)
-          → planRaise levels at x (suc n) (fitsWord (suc n)) ≡ planRedex levels at t
+          → planRaise levels at x (suc n) 4 (fitsWord (suc n)) ≡ planRedex levels at t
       unfolding planRedex planLetOne
       let-succ a b n en =
           let v = as-letSucc h one (succ-kind a b) in
           let w = subst (SoundTerm fitsWord k noVars) (v .is) c in
-          ap₂ (λ (m d : ℕ). planRaise levels at m (suc d) (fitsWord (suc d))) (ex ∙ v .variable-read) (en ∙ v .number-read ∙ closed-number k (v .atom) (w .1))
+          ap₂ (λ (m d : ℕ). planRaise levels at m (suc d) 4 (fitsWord (suc d))) (ex ∙ v .variable-read) (en ∙ v .number-read ∙ closed-number k (v .atom) (w .1))
           ∙ sym (ap (planRedex levels at) (v .is))
 
   module _ (r : val (part l (at + 2) 2) ≡ 39) where
@@ -160,11 +147,11 @@ module _ {k : ℕ} {t : Term} {l : List ℕ} {used : ℕ} (h : TermIn noVars k t
   unfolding planOf
   plan-found = ap (λ (n : ℕ). planRedex n (contentsAt + 4 * n) (redex t)) e
 
-  pub plan-letAll : val (part l (contentsAt + 4 * levels + 2) 2) ≡ 38 → plan levels (contentsAt + 4 * levels) LetAll 0 0 0 (8 + 8 * k) ≡ planOf t
+  pub plan-letAll : val (part l (contentsAt + 4 * levels + 2) 2) ≡ 38 → plan levels (contentsAt + 4 * levels) Leave 0 0 0 (8 + 8 * k) ≡ planOf t
   unfolding planRedex
   plan-letAll q =
       let v = as-letAll found q in
       let y = redex-tuple t (v .first) (v .last) (v .is) in
       let is : redex t ≡ letAll (tuple (y .0)) (v .last) = v .is ∙ ap (λ (s : Term). letAll s (v .last)) (y .1) in
       let n : length (y .0) ≡ k = term-same found is .words .0 .0 in
-      ap (λ (m : ℕ). plan levels (contentsAt + 4 * levels) LetAll 0 0 0 (8 + 8 * m)) (sym n) ∙ sym (ap (planRedex levels (contentsAt + 4 * levels)) is) ∙ plan-found
+      ap (λ (m : ℕ). plan levels (contentsAt + 4 * levels) Leave 0 0 0 (8 + 8 * m)) (sym n) ∙ sym (ap (planRedex levels (contentsAt + 4 * levels)) is) ∙ plan-found

@@ -1,6 +1,6 @@
 // The look before the write: the plan of the next reduction, from the bytes, with nothing changed.
 ghost use mathlib.Core.Path.{_≡_};
-ghost use Prim.Native.Nat.{ℕ, suc, _+_, _*_, _≤_};
+ghost use Prim.Native.Nat.{ℕ, _+_, _*_, _≤_};
 ghost use lib.ListN.{length};
 ghost use Rattle.buffer.specs.LittleEndian.{val};
 ghost use Rattle.buffer.specs.Slice.{part};
@@ -12,17 +12,16 @@ ghost use Rattle.rules.specs.FreeVariables.{noVars};
 ghost use Rattle.rules.specs.Sound.{SoundTerm};
 ghost use Rattle.rules.specs.Store.{fitsWord};
 ghost use Rattle.rules.specs.Syntax.{Term};
-ghost use Rattle.redex.specs.Plan.{planOf, planRaise, planRedex};
-use crate::Plan;
-use crate::Rule;
+ghost use Rattle.redex.specs.Plan.{planOf, planRedex};
+use plan::Plan;
+use plan::Rule;
+use plan::raise;
 use record::kind::LET_ALL;
 use record::kind::LET_ONE;
 use record::kind::NUMERAL;
 use record::kind::PRED;
 use record::kind::REC;
 use record::kind::TUPLE;
-
-const LARGEST_VALUE: u32 = 4294967295;
 
 // Whether a let-all whose first term is no tuple begins at p.
 fn enters(buf: &[u8], p: usize) -> bool
@@ -50,32 +49,6 @@ fn open_levels(buf: &[u8]) -> usize
     levels
 }
 
-// The plan of a let-one of succ of this value.
-fn look_succ(at: usize, levels: usize, variable: u32, value: u32) -> Plan
-    ensures { λ p. ⌜ p ≡ planRaise levels at variable (suc value) (fitsWord (suc value)) ⌝ }
-{
-    if value == LARGEST_VALUE {
-        return Plan {
-            rule: Rule::Over,
-            levels: levels,
-            at: at,
-            variable: variable,
-            value: 0,
-            up: 0,
-            down: 0,
-        };
-    }
-    Plan {
-        rule: Rule::Numeral,
-        levels: levels,
-        at: at,
-        variable: variable,
-        value: value + 1,
-        up: 0,
-        down: 4,
-    }
-}
-
 // The plan of a closed let-one at index at. What it binds is a numeral, or succ or pred of one.
 fn look_let_one(buf: &[u8], at: usize, levels: usize) -> Plan
     requires { ⌜ ((k : ℕ) × ((t : Term) × TermAt (now buf) at k t)) × (val (part (now buf) (at + 2) 2) ≡ 37) ⌝ }
@@ -86,7 +59,7 @@ fn look_let_one(buf: &[u8], at: usize, levels: usize) -> Plan
     if kind == NUMERAL {
         let value = buffer::get_u32(buf, at + 12);
         return Plan {
-            rule: Rule::LetOne,
+            rule: Rule::Bind,
             levels: levels,
             at: at,
             variable: variable,
@@ -99,7 +72,7 @@ fn look_let_one(buf: &[u8], at: usize, levels: usize) -> Plan
     if kind == PRED {
         let less = run::value::minus_one(value);
         return Plan {
-            rule: Rule::Numeral,
+            rule: Rule::Evaluate,
             levels: levels,
             at: at,
             variable: variable,
@@ -108,7 +81,7 @@ fn look_let_one(buf: &[u8], at: usize, levels: usize) -> Plan
             down: 4,
         };
     }
-    look_succ(at, levels, variable, value)
+    raise(at, levels, variable, value, 4)
 }
 
 // The plan of a closed rec at index at. Its body has what is left of its record behind 24 bytes and the start tuple's atoms.
@@ -167,7 +140,7 @@ pub fn look(buf: &[u8], k: u32) -> Plan
         };
     }
     Plan {
-        rule: Rule::LetAll,
+        rule: Rule::Leave,
         levels: levels,
         at: at,
         variable: 0,

@@ -1,7 +1,7 @@
 -- Laws of the reducer's run as it is made: it starts from a term that stands, every turn leaves one, and its end is the end of
 -- the rules' run.
 use Prim.Native.Nat.{_+_, _-_, _<_, ℕ, _≤_}
-use mathlib.Core.Path.{ap, refl, subst, sym, _∙_, _≡_}
+use mathlib.Core.Path.{ap, subst, sym, _∙_, _≡_}
 use mathlib.Core.Bool.{false, true}
 use mathlib.Core.List.{List}
 use lib.ListN.{length}
@@ -13,11 +13,11 @@ use Rattle.record.specs.Holding.{TermIn}
 use Rattle.record.proofs.PaddedLaws.{cleared-padded, length-padded}
 use Rattle.record.proofs.HoldingLaws.{padded-term, term-size}
 use Rattle.redex.specs.Plan.{planOf}
-use Rattle.redex.specs.declared.Plan.{Plan}
-use Rattle.redex.specs.declared.Rule.{Rule}
-use Rattle.redex.specs.declared.Rule.the-variants.{Finished, LetAll, LetOne, Numeral, Over, Stop, Unroll}
-use Rattle.redex.proofs.PlanMeaningLaws.{NextOf, Tells, plan-tells}
-use Rattle.reducing.specs.Perform.{Moves, Performed, Ready}
+use Rattle.plan.specs.Plan.{planReads}
+use Rattle.plan.specs.declared.Plan.{Plan}
+use Rattle.plan.proofs.TellsLaws.{tells-further, tells-reads}
+use Rattle.redex.proofs.PlanMeaningLaws.{plan-tells}
+use Rattle.reducing.specs.Perform.{Performed, Ready}
 use Rattle.reducing.specs.State.{Stands}
 use Rattle.reducing.proofs.PerformLaws.{plan-sums}
 use Rattle.rules.specs.FreeVariables.{noVars}
@@ -32,9 +32,9 @@ use Rattle.run.specs.RanFrom.{FurtherIn}
 use Rattle.run.specs.Represents.{answered, asOutcome, asRunAnswer}
 use Rattle.run.specs.RunAnswer.{accepted}
 use Rattle.run.specs.Tally.{advanced, endsWith, started}
-use Rattle.run.proofs.GoingLaws.{Going, further-fits, further-not-finished, further-not-over, going-answers, going-ends, going-further, going-on, going-start, reads, reads-finished, reads-next, reads-over}
+use Rattle.run.proofs.GoingLaws.{Going, going-answers, going-ends, going-further, going-on, going-start, reads}
 use Rattle.reducer.specs.RunReducer.{reducedTo, reductions}
-use Rattle.reducer.specs.Running.{Accepted, Gives, acceptedRun, planReads}
+use Rattle.reducer.specs.Running.{Accepted, Gives, acceptedRun}
 
 -- THE START: zeros behind the record, and the term stands
 
@@ -52,50 +52,15 @@ accepted-stands {k} {t} {buf} {used} h l e =
       clear = is ∙ ap (λ (n : ℕ). padded n bytes) (sym long);
     }
 
--- WHAT A TERM READS, by the plan of its next reduction
+-- WHAT A TERM READS, and that a further reduction can be made, by the plan of its next reduction
 
-module _ {k : ℕ} {u : Term} {l : List ℕ} {used : ℕ} (h : Stands k u l used) where
-  size : used ≡ length (encodeTerm k u)
-  size = term-size (h .holds)
+module _ {k : ℕ} {t : Term} {l : List ℕ} {used : ℕ} (h : Stands k t l used) (q : Plan) (e : q ≡ planOf t) where
+  plan-reads : (room : ℕ) → planReads q (q .rule) used room ≡ reads (reduce fitsWord) (encodeTerm k) room t
+  plan-reads room = tells-reads (reduce fitsWord) (encodeTerm k) room t used (term-size (h .holds)) q (q .rule) (plan-tells k t q e)
 
-  next-reads : (q : Plan) (t : NextOf k u q) → (used + q .up - q .down) ≡ length (encodeTerm k (t .0))
-  next-reads q t = omega (arith, t .2, size)
-
-  reads-by : (q : Plan) (r : Rule) (room : ℕ) → Tells k u q r → planReads q r used room ≡ reads (reduce fitsWord) (encodeTerm k) room u
-  unfolding planReads
-  reads-by q Finished room t = reads-finished (reduce fitsWord) (encodeTerm k) room u (t .0) (t .1)
-  reads-by q Over room t = reads-over (reduce fitsWord) (encodeTerm k) room u t
-  reads-by q LetOne room t = reads-next (reduce fitsWord) (encodeTerm k) room u (t .0) (used + q .up - q .down) (t .1) (next-reads q t)
-  reads-by q Numeral room t = reads-next (reduce fitsWord) (encodeTerm k) room u (t .0) (used + q .up - q .down) (t .1) (next-reads q t)
-  reads-by q LetAll room t = reads-next (reduce fitsWord) (encodeTerm k) room u (t .0) (used + q .up - q .down) (t .1) (next-reads q t)
-  reads-by q Stop room t = reads-next (reduce fitsWord) (encodeTerm k) room u (t .0) (used + q .up - q .down) (t .1) (next-reads q t)
-  reads-by q Unroll room t = reads-next (reduce fitsWord) (encodeTerm k) room u (t .0) (used + q .up - q .down) (t .1) (next-reads q t)
-
-  plan-reads : (q : Plan) (room : ℕ) → q ≡ planOf u → planReads q (q .rule) used room ≡ reads (reduce fitsWord) (encodeTerm k) room u
-  plan-reads q room e =
-      subst (λ (p : Plan). planReads p (p .rule) used room ≡ reads (reduce fitsWord) (encodeTerm k) room u) (sym e)
-      (reads-by (planOf u) ((planOf u) .rule) room (plan-tells k u))
-
-  -- A FURTHER REDUCTION is one that the plan makes, and there is room for it
-
-  abbrev Further : Type 0
-  Further = FurtherIn (reduce fitsWord) (encodeTerm k) (length l) u
-
-  next-fits : (q : Plan) → NextOf k u q → Further → used + q .up ≤ length l + q .down
-  next-fits q t g = omega (arith, t .2, size, further-fits (reduce fitsWord) (encodeTerm k) (length l) u (t .0) (t .1) g)
-
-  further-by : (q : Plan) (r : Rule) → Tells k u q r → Further → Moves r × (used + q .up ≤ length l + q .down)
-  further-by q Finished t g = absurd (further-not-finished (reduce fitsWord) (encodeTerm k) (length l) u (t .0) (t .1) g)
-  further-by q Over t g = absurd (further-not-over (reduce fitsWord) (encodeTerm k) (length l) u t g)
-  further-by q LetOne t g = (tt, next-fits q t g)
-  further-by q Numeral t g = (tt, next-fits q t g)
-  further-by q LetAll t g = (tt, next-fits q t g)
-  further-by q Stop t g = (tt, next-fits q t g)
-  further-by q Unroll t g = (tt, next-fits q t g)
-
-  further-ready : (q : Plan) → q ≡ planOf u → Further → Ready k u l used q
-  further-ready q e g =
-      let m = subst (λ (p : Plan). Moves (p .rule) × (used + p .up ≤ length l + p .down)) (sym e) (further-by (planOf u) ((planOf u) .rule) (plan-tells k u) g) in
+  further-ready : FurtherIn (reduce fitsWord) (encodeTerm k) (length l) t → Ready k t l used q
+  further-ready g =
+      let m = tells-further (reduce fitsWord) (encodeTerm k) (length l) t used (term-size (h .holds)) q (q .rule) (plan-tells k t q e) g in
       record { stands = h; plans = e; moves = m .0; fits = m .1 }
 
 -- BETWEEN TWO REDUCTIONS of the run from t₀: a term stands in the buffer, and from it the run goes on
@@ -121,7 +86,7 @@ between-sums b p e =
 module _ {k : ℕ} {t₀ : Term} {room budget : ℕ} {y : Tally} {l : List ℕ} {used : ℕ} (b : Between k t₀ room budget y l used) (long : length l ≡ room)
     (p : Plan) (plans : p ≡ planOf (b .term)) (o : Outcome) (read : asOutcome o ≡ planReads p (p .rule) used room) where
   is-read : asOutcome o ≡ reads (reduce fitsWord) (encodeTerm k) room (b .term)
-  is-read = read ∙ plan-reads (b .stands) p room plans
+  is-read = read ∙ plan-reads (b .stands) p plans room
 
   -- it goes on
   on : endsWith o y ≡ false → (0 < y .left) × FurtherIn (reduce fitsWord) (encodeTerm k) room (b .term)

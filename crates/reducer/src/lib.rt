@@ -1,39 +1,17 @@
 // The reducer's run: rows 1 to 5 and 7, and then one reduction after another in the lent buffer.
 ghost use mathlib.Core.Path.{_≡_};
-ghost use Prim.Native.Nat.{ℕ, _+_, _<_, _≤_};
 ghost use lib.ListN.{length};
 ghost use Rattle.rules.specs.Syntax.{Term};
-ghost use Rattle.run.specs.Represents.{asOutcome, asRunAnswer};
+ghost use Rattle.run.specs.Represents.{asRunAnswer};
 ghost use Rattle.reducer.specs.RunReducer.{runReducer};
-ghost use Rattle.reducer.specs.Running.{Accepted, Gives, acceptedRun, planReads};
+ghost use Rattle.reducer.specs.Running.{Accepted, Gives, acceptedRun};
 use filling::closed::is_closed;
-use redex::Plan;
-use redex::Rule;
+use plan::outcome_of;
 use redex::look::look;
 use reducing::perform::perform;
-use run::Outcome;
 use run::RunEnd;
 use run::Tally;
 use term_checker::check_term;
-
-// The outcome that a term of `used` bytes reads, first match, from the plan of its next reduction. What comes is added before
-// what goes is taken away: so nothing wraps.
-fn outcome_of(plan: Plan, used: usize, room: usize) -> Outcome
-    requires { ⌜ (used ≤ 16384) × (plan .up ≤ used) × (plan .down ≤ used) ⌝ }
-    ensures { λ r. ⌜ asOutcome r ≡ planReads plan (plan .rule) used room ⌝ }
-{
-    let by_room = run::room_outcome(used + plan.up - plan.down, room);
-    let rule = plan.rule;
-    match rule {
-        Rule::Finished => Outcome::Finished,
-        Rule::Over => Outcome::Over,
-        Rule::LetOne => by_room,
-        Rule::Numeral => by_room,
-        Rule::LetAll => by_room,
-        Rule::Stop => by_room,
-        Rule::Unroll => by_room,
-    }
-}
 
 // The run of what the rows let through, a closed term of k variables. The bytes behind the record are made zero first, and every
 // reduction leaves them so; room is looked for in the whole lent buffer.

@@ -14,8 +14,8 @@ use Rattle.place.specs.Heads.{recordHead}
 use Rattle.buffer.proofs.SliceLaws.{drop-put, length-part, length-put}
 use Rattle.place.proofs.EditLaws.{length-lead, length-leafBytes}
 use Rattle.place.proofs.HeadsLaws.{length-recordHead}
-use Rattle.redex.specs.declared.Plan.{Plan}
-use Rattle.redex.specs.declared.Rule.{Rule}
+use Rattle.plan.specs.declared.Plan.{Plan}
+use Rattle.plan.specs.declared.Rule.{Rule}
 use Rattle.reducing.specs.Perform.{EditFits, Edited, filledAt, numeralAt, spread, stoppedAt, unrolledAt}
 
 pub filled-is : (l m₁ m₂ : List ℕ) (p n used : ℕ) (f g : Substitution) (u : Term) → f ≡ g → m₁ ≡ put l (p + n) (encodeTermRecord (substitute f u)) → m₂ ≡ removed m₁ p n used

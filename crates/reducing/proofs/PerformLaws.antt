@@ -38,12 +38,13 @@ use Rattle.place.proofs.TermPathLaws.{termSize-plug}
 use Rattle.place.proofs.TermPutLaws.{put-letAll-last, put-letOne-last}
 use Rattle.place.proofs.TermViewLaws.{letAll-view, letOne-view, term-index, term-read, term-same}
 use Rattle.place.proofs.WholeLaws.{encodeTerm-relength, length-termFront}
-use Rattle.reducing.specs.Perform.{Edited, Moves, Performed, PlanFits, Ready, filledAt, numeralAt, spread, stoppedAt, unrolledAt}
+use Rattle.plan.specs.Plan.{Moves}
+use Rattle.plan.specs.declared.Plan.{Plan}
+use Rattle.reducing.specs.Perform.{Edited, Performed, PlanFits, Ready, filledAt, numeralAt, spread, stoppedAt, unrolledAt}
 use Rattle.reducing.specs.State.{Stands}
 use Rattle.redex.specs.Plan.{planOf}
-use Rattle.redex.specs.declared.Plan.{Plan}
 use Rattle.reducing.proofs.EditedLaws.{unrolled-behind}
-use Rattle.reducing.proofs.PlanLaws.{Planned, planned-redex, plannedFinished, plannedLetAll, plannedLetOne, plannedNumeral, plannedOver, plannedStop, plannedUnroll, redex-reduces, size-plain, termSize-plain}
+use Rattle.reducing.proofs.PlanLaws.{Planned, planned-redex, plannedBind, plannedEvaluate, plannedFinished, plannedLeave, plannedOver, plannedStop, plannedUnroll, redex-reduces, size-plain, termSize-plain}
 use Rattle.reducing.proofs.StateLaws.{redex-bytes, redex-room, redex-sound, redex-stands, redex-used, stands-after, zeros-behind}
 
 module _ {k : ℕ} {t : Term} {l : List ℕ} {used : ℕ} (h : Stands k t l used) where
@@ -293,9 +294,9 @@ module _ {k : ℕ} {t : Term} {l : List ℕ} {used : ℕ} (h : Stands k t l used
       → (m : List ℕ) → Edited k q (q .rule) used l m → Performed k t (length l) (relengthAll (shifted (q .up) (q .down)) (q .levels) m) (used + q .up - q .down)
   performs-by _ _ plannedFinished is moves fits m e = absurd moves
   performs-by _ _ plannedOver is moves fits m e = absurd moves
-  performs-by _ _ (plannedLetOne {x} {v} {a} {u} st) is moves fits m e = subst (Made 0 16) (sym (e u (letOne-last x a u is))) (letOne-made x v a u is st)
-  performs-by _ _ (plannedNumeral {x} {v} {s} {u} z st) is moves fits m e = subst (Made 0 4) (sym e) (numeral-made x v s u is z st)
-  performs-by _ _ (plannedLetAll {ys} {u} st) is moves fits m e =
+  performs-by _ _ (plannedBind {x} {v} {a} {u} st) is moves fits m e = subst (Made 0 16) (sym (e u (letOne-last x a u is))) (letOne-made x v a u is st)
+  performs-by _ _ (plannedEvaluate {x} {v} {s} {u} z st) is moves fits m e = subst (Made 0 4) (sym e) (numeral-made x v s u is z st)
+  performs-by _ _ (plannedLeave {ys} {u} st) is moves fits m e =
       subst (Made 0 (8 + 8 * length ys)) (sym (e (map valueOf ys) u (letAll-first ys u is) (letAll-last ys u is))) (letAll-made (fromStore (map valueOf ys)) ys u is st)
   performs-by _ _ (plannedStop {x} {a} {ys} {u} st) is moves fits m e = subst (Made 0 (20 + termSize u)) (sym e) (stop-made x a ys u is st)
   performs-by _ _ (plannedUnroll {x} {q} {a} {ys} {u} st) is moves fits m e = subst (Made (24 + termSize u) 0) (sym e) (unroll-made x q a ys u is st (omega arith))
@@ -316,19 +317,19 @@ module _ {k : ℕ} {t : Term} {l : List ℕ} {used : ℕ} (h : Stands k t l used
   asks-by : (t₀ : Term) (q : Plan) → Planned (length (termPath t)) place t₀ q → redex t ≡ t₀ → used + q .up ≤ length l + q .down → PlanFits k q l used
   asks-by _ _ plannedFinished is fits = record { edit = tt; levels = omega (arith, redex-room h, fits-buf); up = omega arith; down = omega arith }
   asks-by _ _ plannedOver is fits = record { edit = tt; levels = omega (arith, redex-room h, fits-buf); up = omega arith; down = omega arith }
-  asks-by _ _ (plannedLetOne {x} {v} {a} {u} st) is fits =
+  asks-by _ _ (plannedBind {x} {v} {a} {u} st) is fits =
       let t₀ : Term = letOne x (plain a) u in
       let z : termSize t₀ ≡ 16 + termSize u = termSize-plain x a u in
       let room : place + (4 + termSize t₀) ≤ used = room₀ t₀ is in
       let low : x < 17 = omega (arith, sound₀ t₀ is .0 .1, h .holds .k-high) in
       record { edit = ((u, letOne-last x a u is), low, omega arith); levels = omega (arith, fits-buf); up = omega arith; down = omega arith }
-  asks-by _ _ (plannedNumeral {x} {v} {s} {u} e st) is fits =
+  asks-by _ _ (plannedEvaluate {x} {v} {s} {u} e st) is fits =
       let t₀ : Term = letOne x s u in
       let z : termSize t₀ ≡ 8 + simpleSize s + termSize u = termSize-letOne x s u in
       let room : place + (4 + termSize t₀) ≤ used = room₀ t₀ is in
       let read : val (part l place 2) ≡ 4 + termSize t₀ = term-read (at₀ t₀ is) (place + 2) refl .0 in
       record { edit = (omega arith, omega arith); levels = omega (arith, fits-buf); up = omega arith; down = omega arith }
-  asks-by _ _ (plannedLetAll {ys} {u} st) is fits =
+  asks-by _ _ (plannedLeave {ys} {u} st) is fits =
       let t₀ : Term = letAll (tuple ys) u in
       let z : termSize t₀ ≡ 8 + termSize (tuple ys) + termSize u = termSize-letAll (tuple ys) u in
       let y : termSize (tuple ys) ≡ 8 * length ys = termSize-tuple ys in
@@ -361,14 +362,14 @@ module _ {k : ℕ} {t : Term} {l : List ℕ} {used : ℕ} (h : Stands k t l used
   sums-by : (t₀ : Term) (q : Plan) → Planned (length (termPath t)) place t₀ q → redex t ≡ t₀ → (q .up ≤ used) × (q .down ≤ used)
   sums-by _ _ plannedFinished is = (omega arith, omega arith)
   sums-by _ _ plannedOver is = (omega arith, omega arith)
-  sums-by _ _ (plannedLetOne {x} {v} {a} {u} st) is =
+  sums-by _ _ (plannedBind {x} {v} {a} {u} st) is =
       let z : termSize (letOne x (plain a) u) ≡ 16 + termSize u = termSize-plain x a u in
       let room : place + (4 + termSize (letOne x (plain a) u)) ≤ used = room₀ (letOne x (plain a) u) is in
       (omega arith, omega arith)
-  sums-by _ _ (plannedNumeral {x} {v} {s} {u} e st) is =
+  sums-by _ _ (plannedEvaluate {x} {v} {s} {u} e st) is =
       let room : place + (4 + termSize (letOne x s u)) ≤ used = room₀ (letOne x s u) is in
       (omega arith, omega arith)
-  sums-by _ _ (plannedLetAll {ys} {u} st) is =
+  sums-by _ _ (plannedLeave {ys} {u} st) is =
       let z : termSize (letAll (tuple ys) u) ≡ 8 + termSize (tuple ys) + termSize u = termSize-letAll (tuple ys) u in
       let y : termSize (tuple ys) ≡ 8 * length ys = termSize-tuple ys in
       let room : place + (4 + termSize (letAll (tuple ys) u)) ≤ used = room₀ (letAll (tuple ys) u) is in

@@ -16,9 +16,10 @@ use Rattle.place.specs.TermPath.{Redex, redex, termPath, terms}
 use Rattle.place.specs.TermView.{simpleKind}
 use Rattle.place.proofs.TermBytesLaws.{encodeSimple-plain, length-encodeAtom, simple-high, termSize-letOne}
 use Rattle.place.proofs.TermPathLaws.{plug-redex, redex-kind, reduce-letAll-tuple, reduce-plug}
-use Rattle.redex.specs.Plan.{plan, planLetOne, planRaise, planRec, planRedex}
-use Rattle.redex.specs.declared.Plan.{Plan}
-use Rattle.redex.specs.declared.Rule.the-variants.{Finished, LetAll, LetOne, Numeral, Over, Stop, Unroll}
+use Rattle.plan.specs.Plan.{plan, planRaise}
+use Rattle.plan.specs.declared.Plan.{Plan}
+use Rattle.plan.specs.declared.Rule.the-variants.{Bind, Evaluate, Finished, Leave, Over, Stop, Unroll}
+use Rattle.redex.specs.Plan.{planLetOne, planRec, planRedex}
 
 -- WHAT A LET-ONE BINDS has 8 bytes where it is an atom, and else 12
 
@@ -42,12 +43,12 @@ termSize-plain x a t = termSize-letOne x (plain a) t ∙ ap (λ (n : ℕ). 8 + n
 pub data Planned (levels p : ℕ) : Term → Plan → Type 0 where
   plannedFinished : {t : Term} → Planned levels p t (plan levels p Finished 0 0 0 0)
   plannedOver : {t : Term} {x : ℕ} → Planned levels p t (plan levels p Over x 0 0 0)
-  plannedLetOne : {x v : ℕ} {a : Atom} {u : Term} → reduce fitsWord (letOne x (plain a) u) ≡ next (substitute (only x v) u)
-      → Planned levels p (letOne x (plain a) u) (plan levels p LetOne x v 0 16)
-  plannedNumeral : {x v : ℕ} {s : Simple} {u : Term} → simpleSize s ≡ 12 → reduce fitsWord (letOne x s u) ≡ next (letOne x (plain (num v)) u)
-      → Planned levels p (letOne x s u) (plan levels p Numeral x v 0 4)
-  plannedLetAll : {ys : List Atom} {u : Term} → reduce fitsWord (letAll (tuple ys) u) ≡ next (substitute (fromStore (map valueOf ys)) u)
-      → Planned levels p (letAll (tuple ys) u) (plan levels p LetAll 0 0 0 (8 + 8 * length ys))
+  plannedBind : {x v : ℕ} {a : Atom} {u : Term} → reduce fitsWord (letOne x (plain a) u) ≡ next (substitute (only x v) u)
+      → Planned levels p (letOne x (plain a) u) (plan levels p Bind x v 0 16)
+  plannedEvaluate : {x v : ℕ} {s : Simple} {u : Term} → simpleSize s ≡ 12 → reduce fitsWord (letOne x s u) ≡ next (letOne x (plain (num v)) u)
+      → Planned levels p (letOne x s u) (plan levels p Evaluate x v 0 4)
+  plannedLeave : {ys : List Atom} {u : Term} → reduce fitsWord (letAll (tuple ys) u) ≡ next (substitute (fromStore (map valueOf ys)) u)
+      → Planned levels p (letAll (tuple ys) u) (plan levels p Leave 0 0 0 (8 + 8 * length ys))
   plannedStop : {x : ℕ} {a : Atom} {ys : List Atom} {u : Term} → reduce fitsWord (rec x a ys u) ≡ next (tuple ys)
       → Planned levels p (rec x a ys u) (plan levels p Stop x 0 0 (20 + termSize u))
   plannedUnroll : {x q : ℕ} {a : Atom} {ys : List Atom} {u : Term}
@@ -55,16 +56,16 @@ pub data Planned (levels p : ℕ) : Term → Plan → Type 0 where
       → Planned levels p (rec x a ys u) (plan levels p Unroll x (suc q) (24 + termSize u) 0)
 
 module _ (levels p : ℕ) where
-  planned-raise : (x : ℕ) (a : Atom) (t : Term) (b : Bool) → fitsWord (suc (valueOf a)) ≡ b → Planned levels p (letOne x (succOf a) t) (planRaise levels p x (suc (valueOf a)) b)
+  planned-raise : (x : ℕ) (a : Atom) (t : Term) (b : Bool) → fitsWord (suc (valueOf a)) ≡ b → Planned levels p (letOne x (succOf a) t) (planRaise levels p x (suc (valueOf a)) 4 b)
   unfolding planRaise reduce reduceLetOne
-  planned-raise x a t true e = plannedNumeral (size-succ a) (ap (λ (c : Bool). cond c (next (letOne x (plain (num (suc (valueOf a)))) t)) over) e)
+  planned-raise x a t true e = plannedEvaluate (size-succ a) (ap (λ (c : Bool). cond c (next (letOne x (plain (num (suc (valueOf a)))) t)) over) e)
   planned-raise x a t false e = plannedOver
 
   planned-letOne : (x : ℕ) (s : Simple) (t : Term) → Planned levels p (letOne x s t) (planLetOne levels p x s)
   unfolding planLetOne reduce reduceLetOne
-  planned-letOne x (plain a) t = plannedLetOne refl
+  planned-letOne x (plain a) t = plannedBind refl
   planned-letOne x (succOf a) t = planned-raise x a t (fitsWord (suc (valueOf a))) refl
-  planned-letOne x (predOf a) t = plannedNumeral (size-pred a) refl
+  planned-letOne x (predOf a) t = plannedEvaluate (size-pred a) refl
 
   planned-rec : (x : ℕ) (a : Atom) (ys : List Atom) (t : Term) (v : ℕ) → valueOf a ≡ v → Planned levels p (rec x a ys t) (planRec levels p x (termSize t) v)
   unfolding planRec reduce unrollRec
@@ -75,7 +76,7 @@ module _ (levels p : ℕ) where
   unfolding planRedex
   planned-redex (tuple ys) = plannedFinished
   planned-redex (letOne x s t) = planned-letOne x s t
-  planned-redex (letAll (tuple ys) u) = plannedLetAll (reduce-letAll-tuple fitsWord ys u)
+  planned-redex (letAll (tuple ys) u) = plannedLeave (reduce-letAll-tuple fitsWord ys u)
   planned-redex (letAll (letOne x s t) u) = plannedFinished
   planned-redex (letAll (letAll s t) u) = plannedFinished
   planned-redex (letAll (rec x a ys t) u) = plannedFinished

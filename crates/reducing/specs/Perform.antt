@@ -17,9 +17,10 @@ use Rattle.place.specs.Heads.{recordHead}
 use Rattle.place.specs.TermView.{TermAt}
 use Rattle.filling.specs.Ranged.{RangedTerm}
 use Rattle.redex.specs.Plan.{planOf}
-use Rattle.redex.specs.declared.Plan.{Plan}
-use Rattle.redex.specs.declared.Rule.{Rule}
-use Rattle.redex.specs.declared.Rule.the-variants.{Finished, LetAll, LetOne, Numeral, Over, Stop, Unroll}
+use Rattle.plan.specs.Plan.{Moves}
+use Rattle.plan.specs.declared.Plan.{Plan}
+use Rattle.plan.specs.declared.Rule.{Rule}
+use Rattle.plan.specs.declared.Rule.the-variants.{Bind, Evaluate, Finished, Leave, Over, Stop, Unroll}
 use Rattle.reducing.specs.State.{Stands}
 
 -- THE BYTES
@@ -52,9 +53,9 @@ unrolledAt l p k up used x v =
 abbrev pub Edited : ℕ → Plan → Rule → ℕ → List ℕ → List ℕ → Type 0
 Edited k p Finished used l m = m ≡ l
 Edited k p Over used l m = m ≡ l
-Edited k p LetOne used l m = (u : Term) → RangedTerm l (p .at + 16) k u → m ≡ filledAt l (p .at) 16 (substitute (only (p .variable) (p .value)) u) used
-Edited k p Numeral used l m = m ≡ numeralAt l (p .at) used (p .value)
-Edited k p LetAll used l m =
+Edited k p Bind used l m = (u : Term) → RangedTerm l (p .at + 16) k u → m ≡ filledAt l (p .at) 16 (substitute (only (p .variable) (p .value)) u) used
+Edited k p Evaluate used l m = m ≡ numeralAt l (p .at) used (p .value)
+Edited k p Leave used l m =
     (vs : List ℕ) (u : Term) → TermAt l (p .at + 4) k (tuple (map num vs)) → RangedTerm l (p .at + p .down) k u
     → m ≡ filledAt l (p .at) (p .down) (substitute (fromStore vs) u) used
 Edited k p Stop used l m = m ≡ stoppedAt l (p .at) k (p .down) used
@@ -64,9 +65,9 @@ Edited k p Unroll used l m = m ≡ unrolledAt l (p .at) k (p .up) used (p .varia
 abbrev pub EditFits : ℕ → Plan → Rule → List ℕ → ℕ → Type 0
 EditFits k p Finished l used = Unit {0}
 EditFits k p Over l used = Unit {0}
-EditFits k p LetOne l used = ((u : Term) × RangedTerm l (p .at + 16) k u) × (p .variable < 17) × (p .at + 16 ≤ used)
-EditFits k p Numeral l used = (p .at + 20 ≤ used) × (4 ≤ val (part l (p .at) 2))
-EditFits k p LetAll l used =
+EditFits k p Bind l used = ((u : Term) × RangedTerm l (p .at + 16) k u) × (p .variable < 17) × (p .at + 16 ≤ used)
+EditFits k p Evaluate l used = (p .at + 20 ≤ used) × (4 ≤ val (part l (p .at) 2))
+EditFits k p Leave l used =
     ((vs : List ℕ) × TermAt l (p .at + 4) k (tuple (map num vs))) × ((u : Term) × RangedTerm l (p .at + p .down) k u) × (k ≤ 16) × (p .at + p .down ≤ used)
 EditFits k p Stop l used = (16 ≤ p .down) × (p .at + (4 + 8 * k) + p .down ≤ used)
 EditFits k p Unroll l used = (24 ≤ p .up) × (p .at + (p .up + 8 * k) ≤ used) × (used + p .up ≤ length l) × (0 < p .value)
@@ -79,16 +80,6 @@ pub record PlanFits (k : ℕ) (p : Plan) (l : List ℕ) (used : ℕ) : Type 0 wh
   pub down : p .down ≤ used + p .up
 
 -- THE REDUCTION
-
--- The rule makes a reduction.
-abbrev pub Moves : Rule → Type 0
-Moves Finished = ⊥
-Moves Over = ⊥
-Moves LetOne = Unit {0}
-Moves Numeral = Unit {0}
-Moves LetAll = Unit {0}
-Moves Stop = Unit {0}
-Moves Unroll = Unit {0}
 
 -- What stands before a reduction: the term t, its plan, which makes one, and room for the next state.
 pub record Ready (k : ℕ) (t : Term) (buf : List ℕ) (used : ℕ) (p : Plan) : Type 0 where

@@ -25,11 +25,11 @@ use moves::move_down;
 use moves::move_up;
 use numerals::values::from_tuple;
 use numerals::values::only;
+use plan::Plan;
+use plan::Rule;
 use record::kind::LET_ALL;
 use record::kind::LET_ONE;
 use record::kind::NUMERAL;
-use redex::Plan;
-use redex::Rule;
 
 // Let-one of a numeral: the value goes into its last term, and its other 16 bytes go.
 fn let_one(buf: &mut [u8], at: usize, k: u32, used: usize, x: u32, v: u32)
@@ -97,9 +97,9 @@ fn edit(buf: &mut [u8], used: usize, k: u32, p: Plan)
     match rule {
         Rule::Finished => {}
         Rule::Over => {}
-        Rule::LetOne => let_one(buf, p.at, k, used, p.variable, p.value),
-        Rule::Numeral => set_numeral(buf, p.at, used, p.value),
-        Rule::LetAll => let_all(buf, p.at, k, used, p.down),
+        Rule::Bind => let_one(buf, p.at, k, used, p.variable, p.value),
+        Rule::Evaluate => set_numeral(buf, p.at, used, p.value),
+        Rule::Leave => let_all(buf, p.at, k, used, p.down),
         Rule::Stop => stop(buf, p.at, k, used, p.down),
         Rule::Unroll => unroll(buf, p.at, k, used, p.up, p.variable, p.value),
     }

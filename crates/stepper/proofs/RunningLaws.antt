@@ -1,7 +1,7 @@
 -- Laws of the stepper's run as it is made: it starts from a configuration that stands, every turn leaves one, and its end is
 -- the end of the rules' run.
 use Prim.Native.Nat.{_+_, _-_, _<_, ℕ, _≤_}
-use mathlib.Core.Path.{ap, refl, subst, sym, _∙_, _≡_}
+use mathlib.Core.Path.{ap, subst, sym, _∙_, _≡_}
 use mathlib.Core.Bool.{false, true}
 use mathlib.Core.List.{List}
 use lib.ListN.{length}
@@ -24,17 +24,17 @@ use Rattle.run.specs.RanFrom.{FurtherIn}
 use Rattle.run.specs.Represents.{answered, asOutcome, asRunAnswer}
 use Rattle.run.specs.RunAnswer.{accepted}
 use Rattle.run.specs.Tally.{advanced, endsWith, started}
-use Rattle.run.proofs.GoingLaws.{Going, further-fits, further-not-finished, further-not-over, going-answers, going-ends, going-further, going-on, going-start, reads, reads-finished, reads-next, reads-over}
-use Rattle.stepping.specs.Perform.{Moves, Performed, Ready}
+use Rattle.run.proofs.GoingLaws.{Going, going-answers, going-ends, going-further, going-on, going-start, reads}
+use Rattle.plan.specs.Plan.{planReads}
+use Rattle.plan.specs.declared.Plan.{Plan}
+use Rattle.plan.proofs.TellsLaws.{tells-further, tells-reads}
+use Rattle.stepping.specs.Perform.{Performed, Ready}
 use Rattle.stepping.specs.Plan.{planOf}
 use Rattle.stepping.specs.State.{Stands, configBytes}
-use Rattle.stepping.specs.declared.Plan.{Plan}
-use Rattle.stepping.specs.declared.Rule.{Rule}
-use Rattle.stepping.specs.declared.Rule.the-variants.{Finished, Literal, Over, Remove, Stop, Store, Unroll}
-use Rattle.stepping.proofs.PlanMeaningLaws.{NextOf, Tells, plan-tells}
+use Rattle.stepping.proofs.PlanMeaningLaws.{plan-tells}
 use Rattle.stepping.proofs.PerformLaws.{plan-sums}
 use Rattle.stepper.specs.RunStepper.{steppedTo, steps}
-use Rattle.stepper.specs.Running.{Accepted, Gives, acceptedRun, planReads}
+use Rattle.stepper.specs.Running.{Accepted, Gives}
 
 -- THE START: zeros behind the record, and the configuration stands
 
@@ -55,50 +55,15 @@ accepted-stands {k} {P} {buf} {used} {store} h l e =
       values = h .values;
     }
 
--- WHAT A STATE READS, by the plan of its next step
+-- WHAT A STATE READS, and that a further step can be made, by the plan of its next step
 
-module _ {k : ℕ} {P : Block} {s l : List ℕ} {used : ℕ} (h : Stands k (at P s) l used) where
-  size : used ≡ length (configBytes k (at P s))
-  size = program-size (h .holds)
+module _ {k : ℕ} {P : Block} {s l : List ℕ} {used : ℕ} (h : Stands k (at P s) l used) (q : Plan) (e : q ≡ planOf P s) where
+  plan-reads : (room : ℕ) → planReads q (q .rule) used room ≡ reads (step fitsWord) (configBytes k) room (at P s)
+  plan-reads room = tells-reads (step fitsWord) (configBytes k) room (at P s) used (program-size (h .holds)) q (q .rule) (plan-tells k P s q e)
 
-  next-reads : (q : Plan) (room : ℕ) (t : NextOf k P s q) → (used + q .up - q .down) ≡ length (configBytes k (t .0))
-  next-reads q room t = omega (arith, t .2, size)
-
-  reads-by : (q : Plan) (r : Rule) (room : ℕ) → Tells k P s q r → planReads q r used room ≡ reads (step fitsWord) (configBytes k) room (at P s)
-  unfolding planReads
-  reads-by q Finished room t = reads-finished (step fitsWord) (configBytes k) room (at P s) s t
-  reads-by q Over room t = reads-over (step fitsWord) (configBytes k) room (at P s) t
-  reads-by q Store room t = reads-next (step fitsWord) (configBytes k) room (at P s) (t .0) (used + q .up - q .down) (t .1) (next-reads q room t)
-  reads-by q Literal room t = reads-next (step fitsWord) (configBytes k) room (at P s) (t .0) (used + q .up - q .down) (t .1) (next-reads q room t)
-  reads-by q Remove room t = reads-next (step fitsWord) (configBytes k) room (at P s) (t .0) (used + q .up - q .down) (t .1) (next-reads q room t)
-  reads-by q Stop room t = reads-next (step fitsWord) (configBytes k) room (at P s) (t .0) (used + q .up - q .down) (t .1) (next-reads q room t)
-  reads-by q Unroll room t = reads-next (step fitsWord) (configBytes k) room (at P s) (t .0) (used + q .up - q .down) (t .1) (next-reads q room t)
-
-  plan-reads : (q : Plan) (room : ℕ) → q ≡ planOf P s → planReads q (q .rule) used room ≡ reads (step fitsWord) (configBytes k) room (at P s)
-  plan-reads q room e =
-      subst (λ (p : Plan). planReads p (p .rule) used room ≡ reads (step fitsWord) (configBytes k) room (at P s)) (sym e)
-      (reads-by (planOf P s) ((planOf P s) .rule) room (plan-tells k P s))
-
-  -- A FURTHER STEP is one that the plan makes, and there is room for it
-
-  abbrev Further : Type 0
-  Further = FurtherIn (step fitsWord) (configBytes k) (length l) (at P s)
-
-  next-fits : (q : Plan) → NextOf k P s q → Further → used + q .up ≤ length l + q .down
-  next-fits q t g = omega (arith, t .2, size, further-fits (step fitsWord) (configBytes k) (length l) (at P s) (t .0) (t .1) g)
-
-  further-by : (q : Plan) (r : Rule) → Tells k P s q r → Further → Moves r × (used + q .up ≤ length l + q .down)
-  further-by q Finished t g = absurd (further-not-finished (step fitsWord) (configBytes k) (length l) (at P s) s t g)
-  further-by q Over t g = absurd (further-not-over (step fitsWord) (configBytes k) (length l) (at P s) t g)
-  further-by q Store t g = (tt, next-fits q t g)
-  further-by q Literal t g = (tt, next-fits q t g)
-  further-by q Remove t g = (tt, next-fits q t g)
-  further-by q Stop t g = (tt, next-fits q t g)
-  further-by q Unroll t g = (tt, next-fits q t g)
-
-  further-ready : (q : Plan) → q ≡ planOf P s → Further → Ready k P l used s q
-  further-ready q e g =
-      let m = subst (λ (p : Plan). Moves (p .rule) × (used + p .up ≤ length l + p .down)) (sym e) (further-by (planOf P s) ((planOf P s) .rule) (plan-tells k P s) g) in
+  further-ready : FurtherIn (step fitsWord) (configBytes k) (length l) (at P s) → Ready k P l used s q
+  further-ready g =
+      let m = tells-further (step fitsWord) (configBytes k) (length l) (at P s) used (program-size (h .holds)) q (q .rule) (plan-tells k P s q e) g in
       record { stands = h; plans = e; moves = m .0; fits = m .1 }
 
 -- BETWEEN TWO STEPS of the run from c₀: a configuration stands in the buffer and the store, and from it the run goes on
@@ -128,7 +93,7 @@ module _ {k : ℕ} {c₀ : Config} {room budget : ℕ} {t : Tally} {l s : List �
   now = at (b .block) s
 
   is-read : asOutcome o ≡ reads (step fitsWord) (configBytes k) room now
-  is-read = read ∙ plan-reads (b .stands) p room plans
+  is-read = read ∙ plan-reads (b .stands) p plans room
 
   -- it goes on
   on : endsWith o t ≡ false → (0 < t .left) × FurtherIn (step fitsWord) (configBytes k) room now

@@ -1,20 +1,15 @@
--- The stepper's run as it is made: what the rows let through, and what a state reads by the plan of its next step.
-use Prim.Native.Nat.{_+_, _-_, ℕ, _≤_}
+-- The stepper's run as it is made: what the rows let through, and the run of it.
+use Prim.Native.Nat.{ℕ, _≤_}
 use mathlib.Core.Path.{_≡_}
 use mathlib.Core.List.{List}
 use lib.ListN.{length}
 use Rattle.record.specs.Holding.{ProgramIn}
 use Rattle.rules.specs.Rules.{at}
-use Rattle.rules.specs.Run.{Outcome, isFinished, isOver}
 use Rattle.rules.specs.Sound.{SmallValues}
 use Rattle.rules.specs.Store.{fitsWord}
 use Rattle.rules.specs.Syntax.{Block}
 use Rattle.run.specs.declared.RunEnd.{RunEnd}
 use Rattle.run.specs.Represents.{asRunAnswer}
-use Rattle.run.specs.RunAnswer.{roomReads}
-use Rattle.stepping.specs.declared.Plan.{Plan}
-use Rattle.stepping.specs.declared.Rule.{Rule}
-use Rattle.stepping.specs.declared.Rule.the-variants.{Finished, Literal, Over, Remove, Stop, Store, Unroll}
 use Rattle.stepper.specs.RunStepper.{StepperCall, steppedTo, steps}
 
 -- What rows 1 to 6 let through: the record of the program P of k variables in the buffer, and k values.
@@ -31,13 +26,3 @@ acceptedRun k P room store budget = steppedTo k room budget (steps k room budget
 -- The code's answer, buffer and store are those of a call.
 abbrev pub Gives : RunEnd → List ℕ → List ℕ → StepperCall → Type 0
 Gives r buf store call = (asRunAnswer r ≡ call .answer) × (buf ≡ call .buf) × (store ≡ call .store)
-
--- The outcome that a state of `used` bytes reads, by the plan of its next step, which says how many bytes come and go.
-unfoldable pub planReads : Plan → Rule → ℕ → ℕ → Outcome
-planReads p Finished used room = isFinished
-planReads p Over used room = isOver
-planReads p Store used room = roomReads (used + p .up - p .down) room
-planReads p Literal used room = roomReads (used + p .up - p .down) room
-planReads p Remove used room = roomReads (used + p .up - p .down) room
-planReads p Stop used room = roomReads (used + p .up - p .down) room
-planReads p Unroll used room = roomReads (used + p .up - p .down) room

@@ -3,7 +3,6 @@ use Prim.Native.Nat.{_*_, _+_, _<_, suc, zero, ℕ, _≤_}
 use mathlib.Core.Path.{ap, ap₂, refl, subst, sym, _∙_, _≡_}
 use mathlib.Core.List.{List}
 use mathlib.Core.Option.{some}
-use borrow.Author.Tests.{le-ltb}
 use lib.ListN.{length}
 use native.Mathlib.Omega.{arith}
 use Rattle.buffer.specs.LittleEndian.{val}
@@ -24,40 +23,29 @@ use Rattle.place.proofs.PathLaws.{plug-spot, spot-at, spot-is, spot-some}
 use Rattle.place.proofs.ProgramBytesLaws.{blockSize-zero, kind-dec, kind-inc, kind-lit, kind-var}
 use Rattle.place.proofs.ProgramViewLaws.{assign-view, loop-view}
 use Rattle.place.proofs.WholeLaws.{program-at, program-used}
-use Rattle.rules.proofs.StoreLaws.{below-fitsWord}
-use Rattle.stepping.specs.Plan.{plan, planAssign, planLoop, planOf, planRaise, planSpot}
-use Rattle.stepping.specs.declared.Rule.the-variants.{Finished, Literal, Over, Remove, Stop, Store, Unroll}
+use Rattle.plan.specs.Plan.{plan, planRaise}
+use Rattle.plan.specs.declared.Rule.the-variants.{Bind, Evaluate, Finished, Leave, Stop, Unroll}
+use Rattle.stepping.specs.Plan.{planAssign, planLoop, planOf, planSpot}
 
 -- ASSIGNMENTS, by the expression's kind and number
 
 module _ (levels at x : ℕ) (e : Expr) (s : List ℕ) where
-  pub plan-lit : exprKind e ≡ 16 → planAssign levels at x e s ≡ plan levels at Store x (exprNumber e) 0 16
+  pub plan-lit : exprKind e ≡ 16 → planAssign levels at x e s ≡ plan levels at Bind x (exprNumber e) 0 16
   unfolding planAssign
   plan-lit h = ap (λ a. planAssign levels at x a s) (kind-lit e h)
 
-  pub plan-var : exprKind e ≡ 17 → planAssign levels at x e s ≡ plan levels at Store x (lookup s (exprNumber e)) 0 16
+  pub plan-var : exprKind e ≡ 17 → planAssign levels at x e s ≡ plan levels at Bind x (lookup s (exprNumber e)) 0 16
   unfolding planAssign
   plan-var h = ap (λ a. planAssign levels at x a s) (kind-var e h)
 
-  pub plan-dec : exprKind e ≡ 19 → planAssign levels at x e s ≡ plan levels at Literal x (minusOne (lookup s (exprNumber e))) 0 0
+  pub plan-dec : exprKind e ≡ 19 → planAssign levels at x e s ≡ plan levels at Evaluate x (minusOne (lookup s (exprNumber e))) 0 0
   unfolding planAssign
   plan-dec h = ap (λ a. planAssign levels at x a s) (kind-dec e h)
 
   pub plan-inc : exprKind e ≡ 18
-      → planAssign levels at x e s ≡ planRaise levels at x (suc (lookup s (exprNumber e))) (fitsWord (suc (lookup s (exprNumber e))))
+      → planAssign levels at x e s ≡ planRaise levels at x (suc (lookup s (exprNumber e))) 0 (fitsWord (suc (lookup s (exprNumber e))))
   unfolding planAssign
   plan-inc h = ap (λ a. planAssign levels at x a s) (kind-inc e h)
-
--- plus one, of a plain number
-pub raise-over : (levels at x n : ℕ) → n ≡ 4294967295 → plan levels at Over x 0 0 0 ≡ planRaise levels at x (suc n) (fitsWord (suc n))
-unfolding planRaise fitsWord
-raise-over levels at x n e = sym (ap (planRaise levels at x (suc n)) (le-ltb (suc n) 4294967296 (omega arith)))
-
-pub raise-literal : (levels at x n w : ℕ) → w ≡ n + 1 → w < 4294967296 → plan levels at Literal x w 0 0 ≡ planRaise levels at x (suc n) (fitsWord (suc n))
-unfolding planRaise
-raise-literal levels at x n w q b =
-    let m : w ≡ suc n = omega arith in
-    ap (λ (y : ℕ). plan levels at Literal x y 0 0) m ∙ sym (ap (planRaise levels at x (suc n)) (below-fitsWord (suc n) (omega arith)))
 
 -- LOOPS
 
@@ -91,9 +79,9 @@ module _ (P : Block) (s : List ℕ) (levels at : ℕ) (l : levels ≡ length (pa
   unfolding planSpot
   plan-loop x b c r q = plan-spot ∙ ap (λ d. planSpot levels at d s) q
 
-  pub plan-remove : (c r : Block) → spot P ≡ nest c r → planOf P s ≡ plan levels at Remove 0 0 0 4
+  pub plan-leave : (c r : Block) → spot P ≡ nest c r → planOf P s ≡ plan levels at Leave 0 0 0 4
   unfolding planSpot
-  plan-remove c r q = plan-spot ∙ ap (λ d. planSpot levels at d s) q
+  plan-leave c r q = plan-spot ∙ ap (λ d. planSpot levels at d s) q
 
 -- WHAT CODE READS of a known assignment and of a known loop
 

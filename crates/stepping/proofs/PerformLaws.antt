@@ -29,12 +29,13 @@ use Rattle.place.proofs.PathLaws.{blockSize-plug, plug-some, plug-spot, step-sp
 use Rattle.place.proofs.ProgramBytesLaws.{blockSize-assign, blockSize-empty, blockSize-loop, blockSize-nest}
 use Rattle.place.proofs.ProgramEditLaws.{assign-gone, assign-literal, loop-emptied, loop-unrolled, nest-gone}
 use Rattle.place.proofs.WholeLaws.{encodeProgram-relength, length-programFront}
-use Rattle.stepping.specs.Perform.{Moves, Performed, PlanFits, Ready, edited, spread, stoppedAt, unrolledAt, valued}
+use Rattle.plan.specs.Plan.{Moves}
+use Rattle.plan.specs.declared.Plan.{Plan}
+use Rattle.stepping.specs.Perform.{Performed, PlanFits, Ready, edited, spread, stoppedAt, unrolledAt, valued}
 use Rattle.stepping.specs.Plan.{planOf}
 use Rattle.stepping.specs.State.{Stands, configBytes}
-use Rattle.stepping.specs.declared.Plan.{Plan}
 use Rattle.stepping.proofs.EditedLaws.{unrolled-behind}
-use Rattle.stepping.proofs.PlanLaws.{Planned, plannedFinished, plannedLiteral, plannedOver, plannedRemove, plannedStop, plannedStore, plannedUnroll, planned-block}
+use Rattle.stepping.proofs.PlanLaws.{Planned, planned-block, plannedBind, plannedEvaluate, plannedFinished, plannedLeave, plannedOver, plannedStop, plannedUnroll}
 use Rattle.stepping.proofs.StateLaws.{spot-bytes, spot-room, spot-used, stands-after, zeros-behind}
 
 -- the step at the end of the path is the program's
@@ -130,9 +131,9 @@ module _ {k : ℕ} {P : Block} {s : List ℕ} {l : List ℕ} {used : ℕ} (h : S
   abbrev Made : ℕ → ℕ → List ℕ → List ℕ → Type 0
   Made up down m t = Performed k (at P s) (length l) (relengthAll (shifted up down) (length (path P) + 1) m) t (used + up - down)
 
-  store-made : (x v : ℕ) (e : Expr) (r : Block) → spot P ≡ assign x e r → Step fitsWord (at (assign x e r) s) (at r (update s x v))
+  bind-made : (x v : ℕ) (e : Expr) (r : Block) → spot P ≡ assign x e r → Step fitsWord (at (assign x e r) s) (at r (update s x v))
       → Made 0 16 (removed l place 16 used) (update s x v)
-  store-made x v e r is st =
+  bind-made x v e r is st =
       let z : blockSize (assign x e r) ≡ 16 + blockSize r = blockSize-assign x e r in
       let order : place + 16 ≤ used = omega (arith, room₀ (assign x e r) is) in
       let m : List ℕ = removed l place 16 used in
@@ -140,9 +141,9 @@ module _ {k : ℕ} {P : Block} {s : List ℕ} {l : List ℕ} {used : ℕ} (h : S
       (assign-gone l m (front (assign x e r) is) (rests blocks (path P)) place used fits-buf (front₀ (assign x e r) is) x e r (bytes₀ (assign x e r) is) (removed-cut l place 16 used order fits-buf))
       (tail-removed place 16 order)
 
-  literal-made : (x v : ℕ) (e : Expr) (r : Block) → spot P ≡ assign x e r → Step fitsWord (at (assign x e r) s) (at (assign x (lit v) r) s)
+  evaluate-made : (x v : ℕ) (e : Expr) (r : Block) → spot P ≡ assign x e r → Step fitsWord (at (assign x e r) s) (at (assign x (lit v) r) s)
       → Made 0 0 (put l (place + 8) (leafBytes 16 v)) s
-  literal-made x v e r is st =
+  evaluate-made x v e r is st =
       let z : blockSize (assign x e r) ≡ 16 + blockSize r = blockSize-assign x e r in
       let y : blockSize (assign x (lit v) r) ≡ 16 + blockSize r = blockSize-assign x (lit v) r in
       let room : place + 16 ≤ used = omega (arith, room₀ (assign x e r) is) in
@@ -150,8 +151,8 @@ module _ {k : ℕ} {P : Block} {s : List ℕ} {l : List ℕ} {used : ℕ} (h : S
       (assign-literal l (front (assign x e r) is) (rests blocks (path P)) place used x v e r (bytes₀ (assign x e r) is) fits-buf (front₀ (assign x e r) is))
       (drop-put l (leafBytes 16 v) (place + 8) used (omega (arith, length-leafBytes 16 v)) (omega (arith, fits-buf)) ∙ zeros-behind h used (omega arith))
 
-  remove-made : (r : Block) → spot P ≡ nest empty r → Step fitsWord (at (nest empty r) s) (at r s) → Made 0 4 (removed l place 4 used) s
-  remove-made r is st =
+  leave-made : (r : Block) → spot P ≡ nest empty r → Step fitsWord (at (nest empty r) s) (at r s) → Made 0 4 (removed l place 4 used) s
+  leave-made r is st =
       let z : blockSize (nest empty r) ≡ 4 + blockSize r = blockSize-nest empty r ∙ ap (λ (y : ℕ). 4 + y + blockSize r) blockSize-empty in
       let order : place + 4 ≤ used = omega (arith, room₀ (nest empty r) is) in
       let m : List ℕ = removed l place 4 used in
@@ -194,9 +195,9 @@ module _ {k : ℕ} {P : Block} {s : List ℕ} {l : List ℕ} {used : ℕ} (h : S
   unfolding edited valued
   performs-by _ _ plannedFinished is moves fits = absurd moves
   performs-by _ _ plannedOver is moves fits = absurd moves
-  performs-by _ _ (plannedStore {x} {v} {e} {r} st) is moves fits = store-made x v e r is st
-  performs-by _ _ (plannedLiteral {x} {v} {e} {r} st) is moves fits = literal-made x v e r is st
-  performs-by _ _ (plannedRemove {r} st) is moves fits = remove-made r is st
+  performs-by _ _ (plannedBind {x} {v} {e} {r} st) is moves fits = bind-made x v e r is st
+  performs-by _ _ (plannedEvaluate {x} {v} {e} {r} st) is moves fits = evaluate-made x v e r is st
+  performs-by _ _ (plannedLeave {r} st) is moves fits = leave-made r is st
   performs-by _ _ (plannedStop {x} {n} {b} {r} st) is moves fits = stop-made x n b r is st
   performs-by _ _ (plannedUnroll {x} {q} {n} {b} {r} st) is moves fits = unroll-made x q n b r is st (omega arith)
 
@@ -227,17 +228,17 @@ module _ {k : ℕ} {P : Block} {s : List ℕ} {l : List ℕ} {used : ℕ} (h : S
   asks-by : (b : Block) (q : Plan) → Planned s (length (path P)) place b q → spot P ≡ b → used + q .up ≤ length l + q .down → PlanFits q used (length l) (length s)
   asks-by _ _ plannedFinished is fits = record { edit = tt; value = tt; levels = omega (arith, spot-room h, fits-buf); up = omega arith; down = omega arith }
   asks-by _ _ plannedOver is fits = record { edit = tt; value = tt; levels = omega (arith, spot-room h, fits-buf); up = omega arith; down = omega arith }
-  asks-by _ _ (plannedStore {x} {v} {e} {r} st) is fits =
+  asks-by _ _ (plannedBind {x} {v} {e} {r} st) is fits =
       let z : blockSize (assign x e r) ≡ 16 + blockSize r = blockSize-assign x e r in
       let w : Within k x = within-spot (assign x e r) is .0 in
       let n : length s ≡ k = h .count in
       let room : place + blockSize (assign x e r) ≤ used = room₀ (assign x e r) is in
       record { edit = omega arith; value = (w .0, omega (arith, w .1)); levels = omega (arith, fits-buf); up = omega arith; down = omega arith }
-  asks-by _ _ (plannedLiteral {x} {v} {e} {r} st) is fits =
+  asks-by _ _ (plannedEvaluate {x} {v} {e} {r} st) is fits =
       let z : blockSize (assign x e r) ≡ 16 + blockSize r = blockSize-assign x e r in
       let room : place + blockSize (assign x e r) ≤ used = room₀ (assign x e r) is in
       record { edit = omega arith; value = tt; levels = omega (arith, fits-buf); up = omega arith; down = omega arith }
-  asks-by _ _ (plannedRemove {r} st) is fits =
+  asks-by _ _ (plannedLeave {r} st) is fits =
       let z : blockSize (nest empty r) ≡ 4 + blockSize empty + blockSize r = blockSize-nest empty r in
       let room : place + blockSize (nest empty r) ≤ used = room₀ (nest empty r) is in
       record { edit = omega arith; value = tt; levels = omega (arith, fits-buf); up = omega arith; down = omega arith }
@@ -259,12 +260,12 @@ module _ {k : ℕ} {P : Block} {s : List ℕ} {l : List ℕ} {used : ℕ} (h : S
   sums-by : (b : Block) (q : Plan) → Planned s (length (path P)) place b q → spot P ≡ b → (q .up ≤ used) × (q .down ≤ used)
   sums-by _ _ plannedFinished is = (omega arith, omega arith)
   sums-by _ _ plannedOver is = (omega arith, omega arith)
-  sums-by _ _ (plannedStore {x} {v} {e} {r} st) is =
+  sums-by _ _ (plannedBind {x} {v} {e} {r} st) is =
       let z : blockSize (assign x e r) ≡ 16 + blockSize r = blockSize-assign x e r in
       let room : place + blockSize (assign x e r) ≤ used = room₀ (assign x e r) is in
       (omega arith, omega arith)
-  sums-by _ _ (plannedLiteral {x} {v} {e} {r} st) is = (omega arith, omega arith)
-  sums-by _ _ (plannedRemove {r} st) is =
+  sums-by _ _ (plannedEvaluate {x} {v} {e} {r} st) is = (omega arith, omega arith)
+  sums-by _ _ (plannedLeave {r} st) is =
       let z : blockSize (nest empty r) ≡ 4 + blockSize empty + blockSize r = blockSize-nest empty r in
       let room : place + blockSize (nest empty r) ≤ used = room₀ (nest empty r) is in
       (omega arith, omega arith)

@@ -12,36 +12,37 @@ use native.Mathlib.Omega.{arith}
 use Rattle.place.proofs.PathLaws.{spot-is}
 use Rattle.place.proofs.ProgramBytesLaws.{blockSize-assign, blockSize-loop, blockSize-nest}
 use Rattle.place.specs.Path.{Spot, spot, spotAssign, spotEmpty, spotLoop}
-use Rattle.stepping.specs.Plan.{plan, planAssign, planLoop, planRaise, planSpot}
-use Rattle.stepping.specs.declared.Plan.{Plan}
-use Rattle.stepping.specs.declared.Rule.the-variants.{Finished, Over, Store, Literal, Remove, Stop, Unroll}
+use Rattle.plan.specs.Plan.{plan, planRaise}
+use Rattle.plan.specs.declared.Plan.{Plan}
+use Rattle.plan.specs.declared.Rule.the-variants.{Bind, Evaluate, Finished, Leave, Over, Stop, Unroll}
+use Rattle.stepping.specs.Plan.{planAssign, planLoop, planSpot}
 
 -- The plan of a block at p, with the store s: the first command, and the rule that acts on it.
 pub data Planned (s : List ℕ) (levels p : ℕ) : Block → Plan → Type 0 where
   plannedFinished : Planned s levels p empty (plan levels p Finished 0 0 0 0)
   plannedOver : {b : Block} {x : ℕ} → Planned s levels p b (plan levels p Over x 0 0 0)
-  plannedStore : {x v : ℕ} {e : Expr} {r : Block} → Step fitsWord (at (assign x e r) s) (at r (update s x v))
-      → Planned s levels p (assign x e r) (plan levels p Store x v 0 16)
-  plannedLiteral : {x v : ℕ} {e : Expr} {r : Block} → Step fitsWord (at (assign x e r) s) (at (assign x (lit v) r) s)
-      → Planned s levels p (assign x e r) (plan levels p Literal x v 0 0)
-  plannedRemove : {r : Block} → Step fitsWord (at (nest empty r) s) (at r s) → Planned s levels p (nest empty r) (plan levels p Remove 0 0 0 4)
+  plannedBind : {x v : ℕ} {e : Expr} {r : Block} → Step fitsWord (at (assign x e r) s) (at r (update s x v))
+      → Planned s levels p (assign x e r) (plan levels p Bind x v 0 16)
+  plannedEvaluate : {x v : ℕ} {e : Expr} {r : Block} → Step fitsWord (at (assign x e r) s) (at (assign x (lit v) r) s)
+      → Planned s levels p (assign x e r) (plan levels p Evaluate x v 0 0)
+  plannedLeave : {r : Block} → Step fitsWord (at (nest empty r) s) (at r s) → Planned s levels p (nest empty r) (plan levels p Leave 0 0 0 4)
   plannedStop : {x : ℕ} {n : Bound} {b r : Block} → Step fitsWord (at (loop x n b r) s) (at (nest empty r) s)
       → Planned s levels p (loop x n b r) (plan levels p Stop x 0 0 (16 + blockSize b))
   plannedUnroll : {x q : ℕ} {n : Bound} {b r : Block} → Step fitsWord (at (loop x n b r) s) (at (nest (loop x (upto q) b (assign x (lit (suc q)) b)) r) s)
       → Planned s levels p (loop x n b r) (plan levels p Unroll x (suc q) (20 + blockSize b) 0)
 
 module _ (s : List ℕ) (levels p : ℕ) where
-  planned-raise : (x y : ℕ) (r : Block) (t : Bool) → fitsWord (suc (lookup s y)) ≡ t → Planned s levels p (assign x (inc y) r) (planRaise levels p x (suc (lookup s y)) t)
+  planned-raise : (x y : ℕ) (r : Block) (t : Bool) → fitsWord (suc (lookup s y)) ≡ t → Planned s levels p (assign x (inc y) r) (planRaise levels p x (suc (lookup s y)) 0 t)
   unfolding planRaise
-  planned-raise x y r true e = plannedLiteral (rule5 (rule1 e))
+  planned-raise x y r true e = plannedEvaluate (rule5 (rule1 e))
   planned-raise x y r false e = plannedOver
 
   planned-assign : (x : ℕ) (e : Expr) (r : Block) → Planned s levels p (assign x e r) (planAssign levels p x e s)
   unfolding planAssign
-  planned-assign x (lit n) r = plannedStore rule3
-  planned-assign x (var y) r = plannedStore rule4
+  planned-assign x (lit n) r = plannedBind rule3
+  planned-assign x (var y) r = plannedBind rule4
   planned-assign x (inc y) r = planned-raise x y r (fitsWord (suc (lookup s y))) refl
-  planned-assign x (dec y) r = plannedLiteral (rule5 rule2)
+  planned-assign x (dec y) r = plannedEvaluate (rule5 rule2)
 
   planned-loop : (x : ℕ) (n : Bound) (b r : Block) (v : ℕ) → boundValue s n ≡ v → Planned s levels p (loop x n b r) (planLoop levels p x (blockSize b) v)
   unfolding planLoop
@@ -52,7 +53,7 @@ module _ (s : List ℕ) (levels p : ℕ) where
   unfolding planSpot
   planned-spot (assign x e r) spotAssign = planned-assign x e r
   planned-spot (loop x n b r) spotLoop = planned-loop x n b r (boundValue s n) refl
-  planned-spot (nest empty r) spotEmpty = plannedRemove rule6
+  planned-spot (nest empty r) spotEmpty = plannedLeave rule6
 
   planned-empty : Planned s levels p (spot empty) (planSpot levels p (spot empty) s)
   unfolding planSpot spot

@@ -1,56 +1,38 @@
 -- What the plan tells of the next step, before it is made: finished, over, or the next configuration and its length.
 use Prim.Native.Nat.{_*_, _+_, _<_, suc, zero, ℕ}
-use mathlib.Core.Path.{ap, refl, sym, _∙_, _≡_}
-use mathlib.Core.Bool.{Bool, false, true}
+use mathlib.Core.Path.{ap, refl, subst, sym, _∙_, _≡_}
 use mathlib.Core.List.{List}
-use mathlib.Core.Option.{some}
 use lib.ListN.{length}
 use native.Mathlib.Omega.{arith}
 use Rattle.place.specs.Nesting.{around, plug}
 use Rattle.place.specs.Path.{Spot, blocks, path, plugConfig, spot, spotAssign, spotEmpty, spotLoop}
 use Rattle.place.specs.Whole.{blockAt}
 use Rattle.record.specs.Program.{blockSize}
-use Rattle.rules.specs.Reduction.{onNext}
 use Rattle.rules.specs.Rules.{at}
 use Rattle.rules.specs.Step.{boundValue, step, stepAssign, stepBlock, unrollLoop}
 use Rattle.rules.specs.Store.{fitsWord, lookup, minusOne, update}
-use Rattle.rules.specs.Syntax.{Block, Bound, Config, Expr, assign, dec, empty, finished, inc, lit, loop, nest, next, over, upto, var}
+use Rattle.rules.specs.Syntax.{Block, Bound, Config, Expr, assign, dec, empty, inc, lit, loop, nest, next, upto, var}
 use Rattle.place.proofs.PathLaws.{blockSize-plug, plug-spot, spot-is, step-nest-empty, step-spot}
 use Rattle.place.proofs.ProgramBytesLaws.{blockSize-assign, blockSize-empty, blockSize-loop, blockSize-nest}
 use Rattle.record.proofs.HeaderLaws.{length-encodeProgram}
+use Rattle.plan.specs.declared.Plan.{Plan}
+use Rattle.plan.specs.declared.Rule.{Rule}
+use Rattle.plan.proofs.TellsLaws.{Tells, tells-around, tells-raise}
 use Rattle.stepping.specs.State.{configBytes}
-use Rattle.stepping.specs.Plan.{planAssign, planLoop, planOf, planRaise, planSpot}
-use Rattle.stepping.specs.declared.Plan.{Plan}
-use Rattle.stepping.specs.declared.Rule.{Rule}
-use Rattle.stepping.specs.declared.Rule.the-variants.{Finished, Literal, Over, Remove, Stop, Store, Unroll}
-
--- a further configuration d, so many bytes longer and so many shorter
-abbrev NextSpot : List ℕ → Block → Plan → Type 0
-NextSpot s b q = (d : Config) × (step fitsWord (at b s) ≡ next d) × (blockSize (d .block) + q .down ≡ blockSize b + q .up)
+use Rattle.stepping.specs.Plan.{planAssign, planLoop, planOf, planSpot}
 
 -- of a block whose first command the rules act on
 abbrev TellsSpot : List ℕ → Block → Plan → Rule → Type 0
-TellsSpot s b q Finished = ⊥
-TellsSpot s b q Over = step fitsWord (at b s) ≡ over
-TellsSpot s b q Store = NextSpot s b q
-TellsSpot s b q Literal = NextSpot s b q
-TellsSpot s b q Remove = NextSpot s b q
-TellsSpot s b q Stop = NextSpot s b q
-TellsSpot s b q Unroll = NextSpot s b q
+TellsSpot s b q r = Tells (step fitsWord) (λ (d : Config). blockSize (d .block)) (at b s) q r
 
 module _ (s : List ℕ) (levels p : ℕ) where
-  tells-raise : (x y : ℕ) (r : Block) (t : Bool) → fitsWord (suc (lookup s y)) ≡ t
-      → TellsSpot s (assign x (inc y) r) (planRaise levels p x (suc (lookup s y)) t) ((planRaise levels p x (suc (lookup s y)) t) .rule)
-  unfolding planRaise step stepBlock stepAssign
-  tells-raise x y r true e =
-      (at (assign x (lit (suc (lookup s y))) r) s, rw e refl, omega (arith, blockSize-assign x (inc y) r, blockSize-assign x (lit (suc (lookup s y))) r))
-  tells-raise x y r false e = rw e refl
-
   tells-assign : (x : ℕ) (e : Expr) (r : Block) → TellsSpot s (assign x e r) (planAssign levels p x e s) ((planAssign levels p x e s) .rule)
   unfolding planAssign step stepBlock stepAssign
   tells-assign x (lit n) r = (at r (update s x n), refl, omega (arith, blockSize-assign x (lit n) r))
   tells-assign x (var y) r = (at r (update s x (lookup s y)), refl, omega (arith, blockSize-assign x (var y) r))
-  tells-assign x (inc y) r = tells-raise x y r (fitsWord (suc (lookup s y))) refl
+  tells-assign x (inc y) r =
+      tells-raise (step fitsWord) (λ (d : Config). blockSize (d .block)) (at (assign x (inc y) r) s) (at (assign x (lit (suc (lookup s y))) r) s) levels p x (suc (lookup s y)) 0 (fitsWord (suc (lookup s y))) refl
+      (omega (arith, blockSize-assign x (inc y) r, blockSize-assign x (lit (suc (lookup s y))) r))
   tells-assign x (dec y) r =
       (at (assign x (lit (minusOne (lookup s y))) r) s, refl, omega (arith, blockSize-assign x (dec y) r, blockSize-assign x (lit (minusOne (lookup s y))) r))
 
@@ -73,54 +55,29 @@ module _ (s : List ℕ) (levels p : ℕ) where
 
 -- OF THE WHOLE PROGRAM
 
-abbrev pub NextOf : ℕ → Block → List ℕ → Plan → Type 0
-NextOf k P s q = (d : Config) × (step fitsWord (at P s) ≡ next d) × (length (configBytes k d) + q .down ≡ length (configBytes k (at P s)) + q .up)
+abbrev pub TellsOf : ℕ → Block → List ℕ → Plan → Type 0
+TellsOf k P s q = Tells (step fitsWord) (λ (d : Config). length (configBytes k d)) (at P s) q (q .rule)
 
-abbrev pub Tells : ℕ → Block → List ℕ → Plan → Rule → Type 0
-Tells k P s q Finished = step fitsWord (at P s) ≡ finished s
-Tells k P s q Over = step fitsWord (at P s) ≡ over
-Tells k P s q Store = NextOf k P s q
-Tells k P s q Literal = NextOf k P s q
-Tells k P s q Remove = NextOf k P s q
-Tells k P s q Stop = NextOf k P s q
-Tells k P s q Unroll = NextOf k P s q
-
-module _ (k : ℕ) (P : Block) (s : List ℕ) (some : 0 < blockSize P) (q : Plan) where
-  next-whole : NextSpot s (spot P) q → NextOf k P s q
-  next-whole h =
-      let e : step fitsWord (at P s) ≡ next (plugConfig (path P) (h .0)) = step-spot fitsWord P s some ∙ ap (onNext (plugConfig (path P))) (h .1) ∙ onNext-next (plugConfig (path P)) (h .0) in
-      let was : blockSize P ≡ blockSize (spot P) + around blocks (path P) = ap blockSize (sym (plug-spot P)) ∙ blockSize-plug (path P) (spot P) in (
-        plugConfig (path P) (h .0),
-        e,
-        omega (arith, length-encodeProgram k (plug blocks (path P) (h .0 .block)), length-encodeProgram k P, blockSize-plug (path P) (h .0 .block), h .2),
-      )
-    where
-      onNext-next : (f : Config → Config) (d : Config) → onNext f (next d) ≡ next (f d)
-      onNext-next f d = unfold onNext in refl
-
-  over-whole : step fitsWord (at (spot P) s) ≡ over → step fitsWord (at P s) ≡ over
-  unfolding onNext
-  over-whole e = step-spot fitsWord P s some ∙ ap (onNext (plugConfig (path P))) e
-
-  whole : (r : Rule) → TellsSpot s (spot P) q r → Tells k P s q r
-  whole Finished h = absurd h
-  whole Over h = over-whole h
-  whole Store h = next-whole h
-  whole Literal h = next-whole h
-  whole Remove h = next-whole h
-  whole Stop h = next-whole h
-  whole Unroll h = next-whole h
-
-tells-empty : (k : ℕ) (s : List ℕ) → Tells k empty s (planOf empty s) ((planOf empty s) .rule)
+tells-empty : (k : ℕ) (s : List ℕ) → TellsOf k empty s (planOf empty s)
 unfolding planOf planSpot path spot step stepBlock
-tells-empty k s = refl
+tells-empty k s = (s, refl)
 
-tells-some : (k : ℕ) (P : Block) (s : List ℕ) → 0 < blockSize P → Tells k P s (planOf P s) ((planOf P s) .rule)
+tells-some : (k : ℕ) (P : Block) (s : List ℕ) → 0 < blockSize P → TellsOf k P s (planOf P s)
 unfolding planOf
-tells-some k P s h = whole k P s h (planOf P s) ((planOf P s) .rule) (tells-spot s (length (path P)) (blockAt + 4 * length (path P)) (spot P) (spot-is P h))
+tells-some k P s h =
+    tells-around (step fitsWord) (λ (d : Config). blockSize (d .block)) (λ (d : Config). length (configBytes k d)) (plugConfig (path P)) (at P s) (at (spot P) s) (step-spot fitsWord P s h) sizes (planOf P s) ((planOf P s) .rule)
+    (tells-spot s (length (path P)) (blockAt + 4 * length (path P)) (spot P) (spot-is P h))
+  where
+    sizes : (d : Config) → length (configBytes k (plugConfig (path P) d)) + blockSize (spot P) ≡ length (configBytes k (at P s)) + blockSize (d .block)
+    sizes d =
+        let was : blockSize P ≡ blockSize (spot P) + around blocks (path P) = ap blockSize (sym (plug-spot P)) ∙ blockSize-plug (path P) (spot P) in
+        omega (arith, length-encodeProgram k (plug blocks (path P) (d .block)), length-encodeProgram k P, blockSize-plug (path P) (d .block))
 
-pub plan-tells : (k : ℕ) (P : Block) (s : List ℕ) → Tells k P s (planOf P s) ((planOf P s) .rule)
-plan-tells k empty s = tells-empty k s
-plan-tells k (assign x e r) s = tells-some k (assign x e r) s (omega (arith, blockSize-assign x e r))
-plan-tells k (loop x n c r) s = tells-some k (loop x n c r) s (omega (arith, blockSize-loop x n c r))
-plan-tells k (nest b r) s = tells-some k (nest b r) s (omega (arith, blockSize-nest b r))
+pub plan-tells : (k : ℕ) (P : Block) (s : List ℕ) (q : Plan) → q ≡ planOf P s → TellsOf k P s q
+plan-tells k P s q e = subst (TellsOf k P s) (sym e) (whole P)
+  where
+    whole : (b : Block) → TellsOf k b s (planOf b s)
+    whole empty = tells-empty k s
+    whole (assign x e r) = tells-some k (assign x e r) s (omega (arith, blockSize-assign x e r))
+    whole (loop x n c r) = tells-some k (loop x n c r) s (omega (arith, blockSize-loop x n c r))
+    whole (nest b r) = tells-some k (nest b r) s (omega (arith, blockSize-nest b r))

@@ -13,11 +13,12 @@ use Rattle.place.specs.Edit.{lead, leafBytes, removed}
 use Rattle.place.specs.Heads.{recordHead}
 use Rattle.record.specs.Answers.{padded}
 use Rattle.record.specs.Header.{contentsAt}
+use Rattle.plan.specs.Plan.{Moves}
+use Rattle.plan.specs.declared.Plan.{Plan}
+use Rattle.plan.specs.declared.Rule.{Rule}
+use Rattle.plan.specs.declared.Rule.the-variants.{Bind, Evaluate, Finished, Leave, Over, Stop, Unroll}
 use Rattle.stepping.specs.Plan.{planOf}
 use Rattle.stepping.specs.State.{Stands, configBytes}
-use Rattle.stepping.specs.declared.Plan.{Plan}
-use Rattle.stepping.specs.declared.Rule.{Rule}
-use Rattle.stepping.specs.declared.Rule.the-variants.{Finished, Over, Store, Literal, Remove, Stop, Unroll}
 
 -- THE BYTES
 
@@ -40,9 +41,9 @@ stoppedAt l p n used = put (removed l (p + 4) n used) p (recordHead 1 4)
 unfoldable pub edited : Plan → Rule → ℕ → List ℕ → List ℕ
 edited p Finished used l = l
 edited p Over used l = l
-edited p Store used l = removed l (p .at) 16 used
-edited p Literal used l = put l (p .at + 8) (leafBytes 16 (p .value))
-edited p Remove used l = removed l (p .at) 4 used
+edited p Bind used l = removed l (p .at) 16 used
+edited p Evaluate used l = put l (p .at + 8) (leafBytes 16 (p .value))
+edited p Leave used l = removed l (p .at) 4 used
 edited p Stop used l = stoppedAt l (p .at) (p .down) used
 edited p Unroll used l = unrolledAt l (p .at) (p .up) used (p .variable) (p .value)
 
@@ -50,21 +51,21 @@ edited p Unroll used l = unrolledAt l (p .at) (p .up) used (p .variable) (p .val
 abbrev pub EditFits : Plan → Rule → ℕ → ℕ → Type 0
 EditFits p Finished used room = Unit {0}
 EditFits p Over used room = Unit {0}
-EditFits p Store used room = p .at + 16 ≤ used
-EditFits p Literal used room = p .at + 16 ≤ used
-EditFits p Remove used room = p .at + 4 ≤ used
+EditFits p Bind used room = p .at + 16 ≤ used
+EditFits p Evaluate used room = p .at + 16 ≤ used
+EditFits p Leave used room = p .at + 4 ≤ used
 EditFits p Stop used room = p .at + 4 + p .down ≤ used
 EditFits p Unroll used room = (20 ≤ p .up) × (p .at + p .up ≤ used) × (used + p .up ≤ room) × (0 < p .value)
 
 -- THE STORE
 
--- The store after a plan: only Store changes it.
+-- The store after a plan: only Bind changes it.
 unfoldable pub valued : Plan → Rule → List ℕ → List ℕ
 valued p Finished s = s
 valued p Over s = s
-valued p Store s = update s (p .variable) (p .value)
-valued p Literal s = s
-valued p Remove s = s
+valued p Bind s = update s (p .variable) (p .value)
+valued p Evaluate s = s
+valued p Leave s = s
 valued p Stop s = s
 valued p Unroll s = s
 
@@ -72,9 +73,9 @@ valued p Unroll s = s
 abbrev pub ValueFits : Plan → Rule → ℕ → Type 0
 ValueFits p Finished k = Unit {0}
 ValueFits p Over k = Unit {0}
-ValueFits p Store k = Within k (p .variable)
-ValueFits p Literal k = Unit {0}
-ValueFits p Remove k = Unit {0}
+ValueFits p Bind k = Within k (p .variable)
+ValueFits p Evaluate k = Unit {0}
+ValueFits p Leave k = Unit {0}
 ValueFits p Stop k = Unit {0}
 ValueFits p Unroll k = Unit {0}
 
@@ -87,16 +88,6 @@ pub record PlanFits (p : Plan) (used room k : ℕ) : Type 0 where
   pub down : p .down ≤ used + p .up
 
 -- THE STEP
-
--- The rule makes a step.
-abbrev pub Moves : Rule → Type 0
-Moves Finished = ⊥
-Moves Over = ⊥
-Moves Store = Unit {0}
-Moves Literal = Unit {0}
-Moves Remove = Unit {0}
-Moves Stop = Unit {0}
-Moves Unroll = Unit {0}
 
 -- What stands before a step: the program P with the store, its plan, which makes a step, and room for the next state.
 pub record Ready (k : ℕ) (P : Block) (buf : List ℕ) (used : ℕ) (store : List ℕ) (p : Plan) : Type 0 where

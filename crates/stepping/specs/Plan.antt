@@ -1,33 +1,23 @@
 -- The plan of the next step: what `look` answers, from the tree and the store.
 use Prim.Native.Nat.{ℕ, zero, suc, _+_, _*_}
-use mathlib.Core.Bool.{Bool, true, false}
 use mathlib.Core.List.{List}
 use lib.ListN.{length}
-use Rattle.rules.specs.Syntax.{Expr, lit, var, inc, dec, Bound, Block, empty, assign, loop, nest}
+use Rattle.rules.specs.Syntax.{Expr, lit, var, inc, dec, Block, empty, assign, loop, nest}
 use Rattle.rules.specs.Store.{fitsWord, minusOne, lookup}
 use Rattle.rules.specs.Step.{boundValue}
 use Rattle.record.specs.Program.{blockSize}
 use Rattle.place.specs.Path.{path, spot}
 use Rattle.place.specs.Whole.{blockAt}
-use Rattle.stepping.specs.declared.Plan.{Plan}
-use Rattle.stepping.specs.declared.Rule.{Rule}
-use Rattle.stepping.specs.declared.Rule.the-variants.{Finished, Over, Store, Literal, Remove, Stop, Unroll}
+use Rattle.plan.specs.Plan.{plan, planRaise}
+use Rattle.plan.specs.declared.Plan.{Plan}
+use Rattle.plan.specs.declared.Rule.the-variants.{Bind, Evaluate, Finished, Leave, Stop, Unroll}
 
--- A plan for the command at `at`, with so many blocks open around it.
-abbrev pub plan : ℕ → ℕ → Rule → ℕ → ℕ → ℕ → ℕ → Plan
-plan levels at rule variable value up down =
-    record { rule = rule; levels = levels; at = at; variable = variable; value = value; up = up; down = down }
-
--- Plus one becomes the literal, where that is not too large.
-unfoldable pub planRaise : ℕ → ℕ → ℕ → ℕ → Bool → Plan
-planRaise levels at x n true = plan levels at Literal x n 0 0
-planRaise levels at x n false = plan levels at Over x 0 0 0
-
+-- Of an assignment: its 16 bytes go where its value is stored, and a literal is as long as the expression that becomes it.
 unfoldable pub planAssign : ℕ → ℕ → ℕ → Expr → List ℕ → Plan
-planAssign levels at x (lit n) s = plan levels at Store x n 0 16
-planAssign levels at x (var y) s = plan levels at Store x (lookup s y) 0 16
-planAssign levels at x (inc y) s = planRaise levels at x (suc (lookup s y)) (fitsWord (suc (lookup s y)))
-planAssign levels at x (dec y) s = plan levels at Literal x (minusOne (lookup s y)) 0 0
+planAssign levels at x (lit n) s = plan levels at Bind x n 0 16
+planAssign levels at x (var y) s = plan levels at Bind x (lookup s y) 0 16
+planAssign levels at x (inc y) s = planRaise levels at x (suc (lookup s y)) 0 (fitsWord (suc (lookup s y)))
+planAssign levels at x (dec y) s = plan levels at Evaluate x (minusOne (lookup s y)) 0 0
 
 -- A loop whose body's commands take n bytes, by the value of its bound: its record has 20 + n bytes, an empty block's 4, and
 -- the block that it becomes 40 + 2 n. The value is q + 1.
@@ -40,7 +30,7 @@ unfoldable pub planSpot : ℕ → ℕ → Block → List ℕ → Plan
 planSpot levels at empty s = plan levels at Finished 0 0 0 0
 planSpot levels at (assign x e r) s = planAssign levels at x e s
 planSpot levels at (loop x b body r) s = planLoop levels at x (blockSize body) (boundValue s b)
-planSpot levels at (nest b r) s = plan levels at Remove 0 0 0 4
+planSpot levels at (nest b r) s = plan levels at Leave 0 0 0 4
 
 -- The plan of the next step of the program P with the store s.
 unfoldable pub planOf : Block → List ℕ → Plan

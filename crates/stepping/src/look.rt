@@ -1,20 +1,20 @@
 // The look before the write: the plan of the next step, from the bytes and the store, with nothing changed.
 ghost use mathlib.Core.Path.{_≡_};
-ghost use Prim.Native.Nat.{ℕ, suc, _+_, _*_, _≤_, _<_};
-ghost use mathlib.Core.List.{List};
+ghost use Prim.Native.Nat.{ℕ, _+_, _*_, _≤_, _<_};
 ghost use lib.ListN.{length};
 ghost use Rattle.rules.specs.Syntax.{Block, Bound, Expr, assign, loop};
 ghost use Rattle.rules.specs.Scope.{BoundWithin, ExprWithin};
 ghost use Rattle.rules.specs.Step.{boundValue};
-ghost use Rattle.rules.specs.Store.{fitsWord};
 ghost use Rattle.record.specs.Program.{blockSize, boundKind, boundNumber};
 ghost use Rattle.record.specs.Holding.{ProgramIn};
 ghost use Rattle.place.specs.Path.{opensAt, path};
 ghost use Rattle.place.specs.ProgramView.{BlockAt};
-ghost use Rattle.stepping.specs.Plan.{plan, planAssign, planLoop, planOf, planRaise};
-ghost use Rattle.stepping.specs.declared.Rule.the-variants.{Store};
-use crate::Plan;
-use crate::Rule;
+ghost use Rattle.plan.specs.Plan.{plan};
+ghost use Rattle.plan.specs.declared.Rule.the-variants.{Bind};
+ghost use Rattle.stepping.specs.Plan.{planAssign, planLoop, planOf};
+use plan::Plan;
+use plan::Rule;
+use plan::raise;
 use record::kind::ASSIGNMENT;
 use record::kind::BLOCK;
 use record::kind::LITERAL;
@@ -24,9 +24,6 @@ use record::kind::VARIABLE;
 
 // Where the commands of a program's block start: behind the header and the head of that block.
 const COMMANDS: usize = record::HEADER_LENGTH + 4;
-
-// Plus one of it is too large.
-const LARGEST_VALUE: u32 = 4294967295;
 
 // Whether a block with commands in it begins at p.
 fn opens(buf: &[u8], p: usize) -> bool
@@ -54,42 +51,16 @@ fn open_levels(buf: &[u8]) -> usize
 
 // Rules 3 and 4: the value is stored, and the assignment's 16 bytes go.
 fn look_store(at: usize, levels: usize, variable: u32, value: u32) -> Plan
-    ensures { λ p. ⌜ p ≡ plan levels at Store variable value 0 16 ⌝ }
+    ensures { λ p. ⌜ p ≡ plan levels at Bind variable value 0 16 ⌝ }
 {
     Plan {
-        rule: Rule::Store,
+        rule: Rule::Bind,
         levels: levels,
         at: at,
         variable: variable,
         value: value,
         up: 0,
         down: 16,
-    }
-}
-
-// Rule 5, of plus one: the literal, or over where it is too large.
-fn look_plus_one(at: usize, levels: usize, variable: u32, value: u32) -> Plan
-    ensures { λ p. ⌜ p ≡ planRaise levels at variable (suc value) (fitsWord (suc value)) ⌝ }
-{
-    if value == LARGEST_VALUE {
-        return Plan {
-            rule: Rule::Over,
-            levels: levels,
-            at: at,
-            variable: variable,
-            value: 0,
-            up: 0,
-            down: 0,
-        };
-    }
-    Plan {
-        rule: Rule::Literal,
-        levels: levels,
-        at: at,
-        variable: variable,
-        value: value + 1,
-        up: 0,
-        down: 0,
     }
 }
 
@@ -111,7 +82,7 @@ fn look_assign(buf: &[u8], at: usize, levels: usize, store: &[u32]) -> Plan
     if kind == MINUS_ONE {
         let less = run::value::minus_one(value);
         return Plan {
-            rule: Rule::Literal,
+            rule: Rule::Evaluate,
             levels: levels,
             at: at,
             variable: variable,
@@ -120,7 +91,7 @@ fn look_assign(buf: &[u8], at: usize, levels: usize, store: &[u32]) -> Plan
             down: 0,
         };
     }
-    look_plus_one(at, levels, variable, value)
+    raise(at, levels, variable, value, 0)
 }
 
 // The value of a loop's bound, a literal or a variable.
@@ -193,7 +164,7 @@ pub fn look(buf: &[u8], used: usize, store: &[u32]) -> Plan
         return look_loop(buf, at, levels, store);
     }
     Plan {
-        rule: Rule::Remove,
+        rule: Rule::Leave,
         levels: levels,
         at: at,
         variable: 0,

@@ -10,14 +10,14 @@ ghost use Rattle.rules.specs.Syntax.{Block};
 ghost use Rattle.stepping.specs.Perform.{EditFits, Performed, Ready, ValueFits, edited, stoppedAt, unrolledAt, valued};
 ghost use Rattle.stepping.specs.Plan.{planOf};
 ghost use Rattle.stepping.specs.State.{Stands};
-use crate::Plan;
-use crate::Rule;
 use edit::put_head;
 use edit::put_lead;
 use edit::put_leaf;
 use edit::relength;
 use edit::remove;
 use moves::move_up;
+use plan::Plan;
+use plan::Rule;
 use record::kind::ASSIGNMENT;
 use record::kind::BLOCK;
 use record::kind::LITERAL;
@@ -63,9 +63,9 @@ fn edit(buf: &mut [u8], used: usize, p: Plan)
     match rule {
         Rule::Finished => {}
         Rule::Over => {}
-        Rule::Store => remove(buf, p.at, 16, used),
-        Rule::Literal => put_leaf(buf, p.at + 8, LITERAL, p.value),
-        Rule::Remove => remove(buf, p.at, 4, used),
+        Rule::Bind => remove(buf, p.at, 16, used),
+        Rule::Evaluate => put_leaf(buf, p.at + 8, LITERAL, p.value),
+        Rule::Leave => remove(buf, p.at, 4, used),
         Rule::Stop => stop(buf, p.at, p.down, used),
         Rule::Unroll => unroll(buf, p.at, p.up, used, p.variable, p.value),
     }
@@ -80,9 +80,9 @@ fn keep_value(store: &mut [u32], p: Plan)
     match rule {
         Rule::Finished => {}
         Rule::Over => {}
-        Rule::Store => set_value(store, p.variable, p.value),
-        Rule::Literal => {}
-        Rule::Remove => {}
+        Rule::Bind => set_value(store, p.variable, p.value),
+        Rule::Evaluate => {}
+        Rule::Leave => {}
         Rule::Stop => {}
         Rule::Unroll => {}
     }

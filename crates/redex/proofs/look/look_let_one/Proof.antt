@@ -5,13 +5,12 @@ use Rattle.redex.proofs.look.look_let_one.Reads as reads
 use Rattle.redex.proofs.look.look_let_one.Lts as lts
 use Rattle.buffer.proofs.get_u16.Reads as get-u16-reads
 use Rattle.buffer.proofs.get_u32.Reads as get-u32-reads
-use Rattle.redex.proofs.look.look_succ.Reads as look-succ-reads
 use Rattle.run.proofs.value.minus_one.Reads as minus-one-reads
 use mathlib.Core.Path.{sym, ap, _∙_}
 use Prim.Native.Nat.{ℕ}
 use native.Mathlib.Omega.{arith}
-use Rattle.redex.specs.Plan.{plan}
-use Rattle.redex.specs.declared.Rule.the-variants.{Numeral}
+use Rattle.plan.specs.Plan.{plan}
+use Rattle.plan.specs.declared.Rule.the-variants.{Evaluate}
 use Rattle.redex.proofs.LookLaws.{let-atom, let-pred, let-succ, one-room}
 
 -- src/look.rt:90:41
@@ -64,18 +63,18 @@ minus-one-requires c κs = search needs
 returns-2 : tie.Need-returns-2
 returns-2 c =
     λ k t h s.
-    ap (λ (n : ℕ). plan (c .before .before .before .before .before .before .before .args .levels) (c .before .before .before .before .before .before .before .args .at) Numeral (c .before .before .before .before .before .get-u32 .result) n 0 4) (c .minus-one .ensures)
+    ap (λ (n : ℕ). plan (c .before .before .before .before .before .before .before .args .levels) (c .before .before .before .before .before .before .before .args .at) Evaluate (c .before .before .before .before .before .get-u32 .result) n 0 4) (c .minus-one .ensures)
     ∙ let-pred h (c .before .before .before .before .before .before .before .pre .1) s (c .before .before .before .before .before .before .before .args .levels) (c .before .before .before .before .before .get-u32 .result) (c .before .before .before .before .before .get-u32 .ensures) (sym (c .before .before .before .before .get-u16 .ensures .0) ∙ c .before .if2 .taken) (c .before .before .get-u323 .result) (c .before .before .get-u323 .ensures)
 
 -- src/look.rt:117:5
-look-succ-requires : tie.Need-look-succ-requires
-look-succ-requires c κs = search needs
+raise-requires : tie.Need-raise-requires
+raise-requires c κs = search needs
 
 -- src/look.rt:86:1
 returns-3 : tie.Need-returns-3
 returns-3 c =
     λ k t h s.
-    c .look-succ .ensures
+    c .raise .ensures
     ∙ let-succ h (c .before .before .before .before .before .before .before .pre .1) s (c .before .before .before .before .before .before .before .args .levels) (c .before .before .before .before .before .get-u32 .result) (c .before .before .before .before .before .get-u32 .ensures) (λ e. c .before .before .before .if1 .left (c .before .before .before .before .get-u16 .ensures .0 ∙ e)) (λ e. c .before .if2 .left (c .before .before .before .before .get-u16 .ensures .0 ∙ e)) (c .before .before .get-u323 .result) (c .before .before .get-u323 .ensures)
 
 pub look-let-one-spec : {M : Type 1} → statement M
@@ -93,5 +92,5 @@ look-let-one-spec =
     get-u32-requires-3
     minus-one-requires
     returns-2
-    look-succ-requires
+    raise-requires
     returns-3)

@@ -3,7 +3,7 @@ use borrow.Author.Needs.{needs}
 use Rattle.reducing.proofs.perform.edit.Statement.{statement}
 use Rattle.reducing.proofs.perform.edit.Tie as tie
 use mathlib.Core.Path.{refl}
-use Rattle.redex.specs.declared.Rule.the-variants.{Finished, LetAll, LetOne, Numeral, Over, Stop, Unroll}
+use Rattle.plan.specs.declared.Rule.the-variants.{Bind, Evaluate, Finished, Leave, Over, Stop, Unroll}
 use Rattle.reducing.proofs.EditedLaws.{asks-by, edited-by}
 
 enum-told : tie.Need-enum-told
@@ -17,7 +17,7 @@ enum-told-3 c = search needs
 
 let-one-requires : tie.Need-let-one-requires
 let-one-requires c κs =
-    let e = asks-by (c .before .before .before .before .args .k) (c .before .before .before .before .args .used) (c .before .before .before .before .args .p) (c .before .before .before .before .args .buf .now) LetOne (c .before .enum-told3 .given .1) (c .before .before .before .before .pre .0) in
+    let e = asks-by (c .before .before .before .before .args .k) (c .before .before .before .before .args .used) (c .before .before .before .before .args .p) (c .before .before .before .before .args .buf .now) Bind (c .before .enum-told3 .given .1) (c .before .before .before .before .pre .0) in
     (e .0, e .1, e .2, c .before .before .before .before .pre .1)
 
 enum-told-4 : tie.Need-enum-told-4
@@ -25,7 +25,7 @@ enum-told-4 c = search needs
 
 set-numeral-requires : tie.Need-set-numeral-requires
 set-numeral-requires c κs =
-    let e = asks-by (c .before .before .before .before .args .k) (c .before .before .before .before .args .used) (c .before .before .before .before .args .p) (c .before .before .before .before .args .buf .now) Numeral (c .before .enum-told4 .given .1) (c .before .before .before .before .pre .0) in
+    let e = asks-by (c .before .before .before .before .args .k) (c .before .before .before .before .args .used) (c .before .before .before .before .args .p) (c .before .before .before .before .args .buf .now) Evaluate (c .before .enum-told4 .given .1) (c .before .before .before .before .pre .0) in
     (e .0, e .1, c .before .before .before .before .pre .1)
 
 enum-told-5 : tie.Need-enum-told-5
@@ -33,7 +33,7 @@ enum-told-5 c = search needs
 
 let-all-requires : tie.Need-let-all-requires
 let-all-requires c κs =
-    let e = asks-by (c .before .before .before .before .args .k) (c .before .before .before .before .args .used) (c .before .before .before .before .args .p) (c .before .before .before .before .args .buf .now) LetAll (c .before .enum-told5 .given .1) (c .before .before .before .before .pre .0) in
+    let e = asks-by (c .before .before .before .before .args .k) (c .before .before .before .before .args .used) (c .before .before .before .before .args .p) (c .before .before .before .before .args .buf .now) Leave (c .before .enum-told5 .given .1) (c .before .before .before .before .pre .0) in
     (e .0, e .1, e .2, e .3, c .before .before .before .before .pre .1)
 
 enum-told-6 : tie.Need-enum-told-6
@@ -65,21 +65,21 @@ same-length c = search needs
 
 returns-3 : tie.Need-returns-3
 returns-3 c =
-    edited-by (c .before .before .before .before .before .before .before .args .k) (c .before .before .before .before .before .before .before .args .used) (c .before .before .before .before .before .before .before .args .p) (c .before .before .before .before .before .before .before .args .buf .now) _ LetOne (c .before .before .before .before .enum-told3 .given .1) (c .before .before .let-one .ensures)
+    edited-by (c .before .before .before .before .before .before .before .args .k) (c .before .before .before .before .before .before .before .args .used) (c .before .before .before .before .before .before .before .args .p) (c .before .before .before .before .before .before .before .args .buf .now) _ Bind (c .before .before .before .before .enum-told3 .given .1) (c .before .before .let-one .ensures)
 
 same-length-2 : tie.Need-same-length-2
 same-length-2 c = search needs
 
 returns-4 : tie.Need-returns-4
 returns-4 c =
-    edited-by (c .before .before .before .before .before .before .before .args .k) (c .before .before .before .before .before .before .before .args .used) (c .before .before .before .before .before .before .before .args .p) (c .before .before .before .before .before .before .before .args .buf .now) _ Numeral (c .before .before .before .before .enum-told4 .given .1) (c .before .before .set-numeral .ensures)
+    edited-by (c .before .before .before .before .before .before .before .args .k) (c .before .before .before .before .before .before .before .args .used) (c .before .before .before .before .before .before .before .args .p) (c .before .before .before .before .before .before .before .args .buf .now) _ Evaluate (c .before .before .before .before .enum-told4 .given .1) (c .before .before .set-numeral .ensures)
 
 same-length-3 : tie.Need-same-length-3
 same-length-3 c = search needs
 
 returns-5 : tie.Need-returns-5
 returns-5 c =
-    edited-by (c .before .before .before .before .before .before .before .args .k) (c .before .before .before .before .before .before .before .args .used) (c .before .before .before .before .before .before .before .args .p) (c .before .before .before .before .before .before .before .args .buf .now) _ LetAll (c .before .before .before .before .enum-told5 .given .1) (c .before .before .let-all .ensures)
+    edited-by (c .before .before .before .before .before .before .before .args .k) (c .before .before .before .before .before .before .before .args .used) (c .before .before .before .before .before .before .before .args .p) (c .before .before .before .before .before .before .before .args .buf .now) _ Leave (c .before .before .before .before .enum-told5 .given .1) (c .before .before .let-all .ensures)
 
 same-length-4 : tie.Need-same-length-4
 same-length-4 c = search needs

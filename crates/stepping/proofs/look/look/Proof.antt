@@ -15,7 +15,7 @@ use Rattle.place.specs.ProgramView.{BlockAt}
 use Rattle.place.proofs.ProgramViewLaws.{as-assign, as-loop, as-nest, block-index, block-room, block-same, command-kind}
 use Rattle.place.proofs.ProgramBytesLaws.{blockSize-some}
 use Rattle.rules.specs.Scope.{BoundWithin, ExprWithin}
-use Rattle.stepping.proofs.LookLaws.{First, first-of, none-of, plan-empty, plan-assign, plan-loop, plan-remove, assign-within, loop-within}
+use Rattle.stepping.proofs.LookLaws.{first-of, none-of, plan-empty, plan-assign, plan-loop, plan-leave, assign-within, loop-within}
 
 -- src/look.rt:97:9
 returns : tie.Need-returns
@@ -111,7 +111,7 @@ returns-4 c =
     let b = block-index (f .here) q in
     let g = command-kind b (f .spot-some) in
     let v = as-nest b (f .spot-some) (omega (arith, g, c .before .before .get-u16 .ensures .0, c .before .if2 .left, c .if3 .left)) in
-    sym (plan-remove P (c .before .before .before .before .before .before .before .args .store .now) (c .before .before .before .open-levels .result) (12 + 4 * (c .before .before .before .open-levels .result)) l refl (v .body) (v .rest) (v .is))
+    sym (plan-leave P (c .before .before .before .before .before .before .before .args .store .now) (c .before .before .before .open-levels .result) (12 + 4 * (c .before .before .before .open-levels .result)) l refl (v .body) (v .rest) (v .is))
 
 pub look-spec : {M : Type 1} → statement M
 look-spec =

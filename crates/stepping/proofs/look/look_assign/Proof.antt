@@ -10,9 +10,9 @@ use Rattle.run.proofs.value.value_of.Reads as value-of-reads
 use mathlib.Core.Path.{_≡_, refl, sym, ap, ap₂, _∙_}
 use Prim.Native.Nat.{ℕ, suc}
 use native.Mathlib.Omega.{arith}
-use Rattle.stepping.specs.declared.Rule.the-variants.{Store, Literal}
+use Rattle.plan.specs.Plan.{plan, planRaise}
+use Rattle.plan.specs.declared.Rule.the-variants.{Bind, Evaluate}
 use Rattle.rules.specs.Store.{fitsWord, lookup, minusOne}
-use Rattle.stepping.specs.Plan.{plan, planRaise}
 use Rattle.place.proofs.ProgramBytesLaws.{exprKind-range}
 use Rattle.record.specs.Program.{exprKind, exprNumber}
 use Rattle.stepping.proofs.LookLaws.{assign-read, plan-dec, plan-inc, plan-lit, plan-var}
@@ -62,7 +62,7 @@ returns c =
     λ x e r h w.
     let v = assign-read x e r h in
     c .look-store .ensures
-    ∙ ap₂ (λ (m n : ℕ). plan (c .before .before .before .before .before .before .before .args .levels) (c .before .before .before .before .before .before .before .args .at) Store m n 0 16) (c .before .before .before .before .get-u32 .ensures ∙ v .variable) (c .before .before .get-u322 .ensures ∙ v .number)
+    ∙ ap₂ (λ (m n : ℕ). plan (c .before .before .before .before .before .before .before .args .levels) (c .before .before .before .before .before .before .before .args .at) Bind m n 0 16) (c .before .before .before .before .get-u32 .ensures ∙ v .variable) (c .before .before .get-u322 .ensures ∙ v .number)
     ∙ sym (plan-lit (c .before .before .before .before .before .before .before .args .levels) (c .before .before .before .before .before .before .before .args .at) x e (c .before .before .before .before .before .before .before .args .store .now) (sym (v .kind) ∙ sym (c .before .before .before .get-u16 .ensures .0) ∙ c .before .if1 .taken))
 
 -- src/look.rt:53:9
@@ -81,7 +81,7 @@ returns-2 c =
     λ x e r h w.
     let v = assign-read x e r h in
     c .look-store2 .ensures
-    ∙ ap₂ (λ (m n : ℕ). plan (c .before .before .before .before .before .before .before .before .before .args .levels) (c .before .before .before .before .before .before .before .before .before .args .at) Store m n 0 16) (c .before .before .before .before .before .before .get-u32 .ensures ∙ v .variable) (c .before .before .value-of .ensures ∙ ap (lookup (c .before .before .before .before .before .before .before .before .before .args .store .now)) (c .before .before .before .before .get-u322 .ensures ∙ v .number))
+    ∙ ap₂ (λ (m n : ℕ). plan (c .before .before .before .before .before .before .before .before .before .args .levels) (c .before .before .before .before .before .before .before .before .before .args .at) Bind m n 0 16) (c .before .before .before .before .before .before .get-u32 .ensures ∙ v .variable) (c .before .before .value-of .ensures ∙ ap (lookup (c .before .before .before .before .before .before .before .before .before .args .store .now)) (c .before .before .before .before .get-u322 .ensures ∙ v .number))
     ∙ sym (plan-var (c .before .before .before .before .before .before .before .before .before .args .levels) (c .before .before .before .before .before .before .before .before .before .args .at) x e (c .before .before .before .before .before .before .before .before .before .args .store .now) (sym (v .kind) ∙ sym (c .before .before .before .before .before .get-u16 .ensures .0) ∙ c .before .if2 .taken))
 
 -- src/look.rt:58:13
@@ -93,12 +93,12 @@ returns-3 : tie.Need-returns-3
 returns-3 c =
     λ x e r h w.
     let v = assign-read x e r h in
-    ap₂ (λ (m n : ℕ). plan (c .before .before .before .before .before .before .before .before .before .before .args .levels) (c .before .before .before .before .before .before .before .before .before .before .args .at) Literal m n 0 0) (c .before .before .before .before .before .before .before .get-u32 .ensures ∙ v .variable)
+    ap₂ (λ (m n : ℕ). plan (c .before .before .before .before .before .before .before .before .before .before .args .levels) (c .before .before .before .before .before .before .before .before .before .before .args .at) Evaluate m n 0 0) (c .before .before .before .before .before .before .before .get-u32 .ensures ∙ v .variable)
     (c .minus-one .ensures ∙ ap minusOne (c .before .before .before .value-of .ensures ∙ ap (lookup (c .before .before .before .before .before .before .before .before .before .before .args .store .now)) (c .before .before .before .before .before .get-u322 .ensures ∙ v .number)))
     ∙ sym (plan-dec (c .before .before .before .before .before .before .before .before .before .before .args .levels) (c .before .before .before .before .before .before .before .before .before .before .args .at) x e (c .before .before .before .before .before .before .before .before .before .before .args .store .now) (sym (v .kind) ∙ sym (c .before .before .before .before .before .before .get-u16 .ensures .0) ∙ c .before .if3 .taken))
 
-look-plus-one-requires : tie.Need-look-plus-one-requires
-look-plus-one-requires c κs = search needs
+raise-requires : tie.Need-raise-requires
+raise-requires c κs = search needs
 
 returns-4 : tie.Need-returns-4
 returns-4 c =
@@ -106,8 +106,8 @@ returns-4 c =
     let v = assign-read x e r h in
     let k : exprKind e ≡ 18 = omega (arith, v .kind, c .before .before .before .before .before .before .get-u16 .ensures .0, c .before .before .before .before .if1 .left, c .before .before .if2 .left, c .before .if3 .left, exprKind-range e) in
     let n : c .before .before .before .value-of .result ≡ lookup (c .before .before .before .before .before .before .before .before .before .before .args .store .now) (exprNumber e) = c .before .before .before .value-of .ensures ∙ ap (lookup (c .before .before .before .before .before .before .before .before .before .before .args .store .now)) (c .before .before .before .before .before .get-u322 .ensures ∙ v .number) in
-    c .look-plus-one .ensures
-    ∙ ap₂ (λ (m y : ℕ). planRaise (c .before .before .before .before .before .before .before .before .before .before .args .levels) (c .before .before .before .before .before .before .before .before .before .before .args .at) m (suc y) (fitsWord (suc y))) (c .before .before .before .before .before .before .before .get-u32 .ensures ∙ v .variable) n
+    c .raise .ensures
+    ∙ ap₂ (λ (m y : ℕ). planRaise (c .before .before .before .before .before .before .before .before .before .before .args .levels) (c .before .before .before .before .before .before .before .before .before .before .args .at) m (suc y) 0 (fitsWord (suc y))) (c .before .before .before .before .before .before .before .get-u32 .ensures ∙ v .variable) n
     ∙ sym (plan-inc (c .before .before .before .before .before .before .before .before .before .before .args .levels) (c .before .before .before .before .before .before .before .before .before .before .args .at) x e (c .before .before .before .before .before .before .before .before .before .before .args .store .now) k)
 
 pub look-assign-spec : {M : Type 1} → statement M
@@ -127,5 +127,5 @@ look-assign-spec =
     returns-2
     minus-one-requires
     returns-3
-    look-plus-one-requires
+    raise-requires
     returns-4)

@@ -9,10 +9,10 @@ use Rattle.stepping.proofs.look.bound_value.Reads as bound-value-reads
 use mathlib.Core.Path.{_≡_, refl, sym, ap, ap₂, _∙_}
 use Prim.Native.Nat.{ℕ, _+_, _-_}
 use native.Mathlib.Omega.{arith}
-use Rattle.stepping.specs.declared.Rule.the-variants.{Stop, Unroll}
+use Rattle.plan.specs.Plan.{plan}
+use Rattle.plan.specs.declared.Rule.the-variants.{Stop, Unroll}
 use Rattle.rules.specs.Step.{boundValue}
 use Rattle.record.specs.Program.{blockSize}
-use Rattle.stepping.specs.Plan.{plan}
 use Rattle.stepping.proofs.LookLaws.{loop-read, plan-stop, plan-unroll}
 
 -- src/look.rt:80:41

@@ -6,8 +6,8 @@ use native.Mathlib.Omega.{arith}
 use Prim.Native.Nat.{_+_, _<_, _≤_}
 use mathlib.Core.Path.{_∙_, ap, subst, sym}
 use lib.ListN.{length}
+use Rattle.plan.specs.declared.Rule.{Rule}
 use Rattle.stepping.specs.Perform.{EditFits, edited}
-use Rattle.stepping.specs.declared.Rule.{Rule}
 
 enum-told : tie.Need-enum-told
 enum-told c = search needs

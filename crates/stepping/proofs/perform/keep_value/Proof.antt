@@ -1,11 +1,11 @@
--- In each arm the rule is known: only Store changes the store.
+-- In each arm the rule is known: only Bind changes the store.
 use borrow.Author.Needs.{needs}
 use Rattle.stepping.proofs.perform.keep_value.Statement.{statement}
 use Rattle.stepping.proofs.perform.keep_value.Tie as tie
 use mathlib.Core.Path.{_∙_, ap, subst, sym}
 use lib.ListN.{length}
+use Rattle.plan.specs.declared.Rule.{Rule}
 use Rattle.stepping.specs.Perform.{ValueFits, valued}
-use Rattle.stepping.specs.declared.Rule.{Rule}
 
 enum-told : tie.Need-enum-told
 enum-told c = search needs

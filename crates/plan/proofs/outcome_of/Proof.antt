@@ -1,8 +1,9 @@
 -- Each arm knows its rule, and there the definition computes.
 use borrow.Author.Needs.{needs}
-use Rattle.stepper.proofs.outcome_of.Statement.{statement}
-use Rattle.stepper.proofs.outcome_of.Tie as tie
-use Rattle.stepper.specs.Running.{planReads}
+use Rattle.plan.proofs.outcome_of.Statement.{statement}
+use Rattle.plan.proofs.outcome_of.Tie as tie
+use mathlib.Core.Path.{refl}
+use Rattle.plan.specs.Plan.{planReads}
 
 add-room-outcome : tie.Need-add-room-outcome
 add-room-outcome c = search needs
@@ -36,11 +37,11 @@ enum-told-7 c = search needs
 
 returns : tie.Need-returns
 unfolding planReads
-returns c = rw (c .enum-told .given .1)
+returns c = rw (c .enum-told .given .1) refl
 
 returns-2 : tie.Need-returns-2
 unfolding planReads
-returns-2 c = rw (c .enum-told2 .given .1)
+returns-2 c = rw (c .enum-told2 .given .1) refl
 
 returns-3 : tie.Need-returns-3
 unfolding planReads

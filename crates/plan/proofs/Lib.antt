@@ -1,0 +1,2 @@
+pub mod RaiseLaws
+pub mod TellsLaws

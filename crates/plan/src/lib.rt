@@ -1,0 +1,88 @@
+// What the next step is, looked up before a byte is written (01 "Stepper", "Reducer"). It is the same for both engines, because
+// they run in lock step: a rule of the one is a rule of the other.
+ghost use mathlib.Core.Path.{_≡_};
+ghost use Prim.Native.Nat.{suc, _≤_};
+ghost use Rattle.rules.specs.Store.{fitsWord};
+ghost use Rattle.run.specs.Represents.{asOutcome};
+ghost use Rattle.plan.specs.Plan.{planRaise, planReads};
+use run::Outcome;
+
+// What the next step does, in the stepper and in the reducer. Finished and Over make none; the others are the edits that the
+// paper's rules come to on bytes.
+pub enum Rule {
+    // The outermost block is empty; a tuple.
+    Finished,
+    // The next value is too large.
+    Over,
+    // Rules 3 and 4: a value is stored, and the assignment goes. Let-one of a numeral: its last term, with that variable
+    // substituted.
+    Bind,
+    // Rule 5: the expression becomes a literal. Let-one of succ or pred: that becomes the numeral.
+    Evaluate,
+    // Rule 6: an empty block goes. Let-all of a tuple: its last term, with every variable substituted.
+    Leave,
+    // Rule 8: a loop becomes an empty block. Rec of 0: its start tuple.
+    Stop,
+    // Rule 9: a loop becomes a block of the loop, the index and the body. Rec of q + 1: a let-all of the rec of q and the body.
+    Unroll,
+}
+
+// The edit: where the command or redex stands, how many blocks or let-alls are open around it, its variable and the value, and
+// how many bytes come and go there. So the length of the next state is known before a byte is written.
+pub struct Plan {
+    pub rule: Rule,
+    pub levels: usize,
+    pub at: usize,
+    pub variable: u32,
+    pub value: u32,
+    pub up: usize,
+    pub down: usize,
+}
+
+// Plus one of it is too large.
+const LARGEST_VALUE: u32 = 4294967295;
+
+// The plan of plus one, or succ, of this value: `down` bytes go where it becomes the literal or numeral.
+pub fn raise(at: usize, levels: usize, variable: u32, value: u32, down: usize) -> Plan
+    ensures { λ p. ⌜ p ≡ planRaise levels at variable (suc value) down (fitsWord (suc value)) ⌝ }
+{
+    if value == LARGEST_VALUE {
+        return Plan {
+            rule: Rule::Over,
+            levels: levels,
+            at: at,
+            variable: variable,
+            value: 0,
+            up: 0,
+            down: 0,
+        };
+    }
+    Plan {
+        rule: Rule::Evaluate,
+        levels: levels,
+        at: at,
+        variable: variable,
+        value: value + 1,
+        up: 0,
+        down: down,
+    }
+}
+
+// The outcome that a state of `used` bytes reads, first match, from the plan of its next step. What comes is added before what
+// goes is taken away: so nothing wraps.
+pub fn outcome_of(plan: Plan, used: usize, room: usize) -> Outcome
+    requires { ⌜ (used ≤ 16384) × (plan .up ≤ used) × (plan .down ≤ used) ⌝ }
+    ensures { λ r. ⌜ asOutcome r ≡ planReads plan (plan .rule) used room ⌝ }
+{
+    let by_room = run::room_outcome(used + plan.up - plan.down, room);
+    let rule = plan.rule;
+    match rule {
+        Rule::Finished => Outcome::Finished,
+        Rule::Over => Outcome::Over,
+        Rule::Bind => by_room,
+        Rule::Evaluate => by_room,
+        Rule::Leave => by_room,
+        Rule::Stop => by_room,
+        Rule::Unroll => by_room,
+    }
+}
