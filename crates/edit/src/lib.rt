@@ -1,5 +1,5 @@
-// Edits of records in place, for every crate that writes records: the pieces that are stored, bytes taken out, room made for an
-// unrolling, and the lengths around a place brought up to date.
+// Edits of records in place, for every crate that writes records: the pieces that are stored, bytes taken out, room made for
+// an unrolling, and the lengths around a place brought up to date.
 ghost use mathlib.Core.Path.{_≡_};
 ghost use Prim.Native.Nat.{_+_, _*_, _-_, _≤_};
 ghost use lib.ListN.{length};
@@ -54,7 +54,7 @@ pub fn remove(buf: &mut [u8], at: usize, n: usize, used: usize)
 }
 
 // Room for the unrolling of a record of n bytes, of which the first `own` are before its body. The body and what is behind it
-// move up in one piece, so that the body stands twice; then the record moves up by 4 bytes and makes room for the head before it.
+// move up in one piece, so that the body stands twice; then the record moves up by 4 bytes and makes room for a head.
 pub fn spread(buf: &mut [u8], at: usize, n: usize, own: usize, used: usize)
     requires { ⌜ (own ≤ n) × (at + n ≤ used) × (used + (n - own) + 20 ≤ length (now buf)) ⌝ }
     ensures { λ _. ⌜ now (buf .exit) ≡ spread (now (buf .entry)) at n own used ⌝ }

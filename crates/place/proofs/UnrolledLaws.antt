@@ -1,5 +1,5 @@
--- Laws of an unrolled loop or rec, on plain lists: a head H before what stands at p, another leaf in it, and behind it a piece
--- and its body once more.
+-- Laws of an unrolled loop or rec, on plain lists: a head H before what stands at p, a new leaf in it, and behind it a piece and
+-- its body once more.
 use Prim.Native.Nat.{_+_, _-_, _≤_, ℕ}
 use mathlib.Core.Path.{ap, refl, sym, _∙_, _≡_}
 use mathlib.Core.List.{_++_, List, append-assoc}

@@ -34,8 +34,8 @@ lead kind n x leaf v = recordHead kind n ++ (le 4 x ++ leafBytes leaf v)
 
 -- UNROLLING
 
--- A record of n bytes at p, whose body starts s bytes on, with room made for its unrolling: the body and all behind it once more
--- n + 20 bytes on, and the record itself 4 bytes on.
+-- A record of n bytes at p, whose body starts s bytes on, with room made for its unrolling: the body and all behind it once
+-- more n + 20 bytes on, and the record itself 4 bytes on.
 unfoldable pub spread : List ℕ → ℕ → ℕ → ℕ → ℕ → List ℕ
 spread l p n s used =
     let m : List ℕ = put l (p + n + 20) (part l (p + s) (used - (p + s))) in
