@@ -1,6 +1,6 @@
 -- Laws of verdicts.
 use Prim.Native.Nat.{ℕ}
-use mathlib.Core.Path.{ap, refl, sym, _≡_, _∙_}
+use mathlib.Core.Path.{refl, sym, _≡_}
 use mathlib.Core.Bool.{_&&_, Bool, false, true}
 use mathlib.Core.Option.{Option, none, some}
 use Rattle.rules.specs.Scope.{Within, inRange}

@@ -1,12 +1,12 @@
-// Edits of records in place, for every crate that writes records: the pieces that are stored, bytes taken out, and the
-// lengths around a place brought up to date.
+// Edits of records in place, for every crate that writes records: the pieces that are stored, bytes taken out, room made for
+// an unrolling, and the lengths around a place brought up to date.
 ghost use mathlib.Core.Path.{_≡_};
-ghost use Prim.Native.Nat.{_+_, _*_, _≤_};
+ghost use Prim.Native.Nat.{_+_, _*_, _-_, _≤_};
 ghost use lib.ListN.{length};
 ghost use Rattle.buffer.specs.LittleEndian.{le, val};
 ghost use Rattle.buffer.specs.Slice.{part, put};
 ghost use Rattle.record.specs.Header.{contentsAt};
-ghost use Rattle.place.specs.Edit.{lead, leafBytes, removed};
+ghost use Rattle.place.specs.Edit.{lead, leafBytes, removed, spread};
 ghost use Rattle.place.specs.Heads.{recordHead, shifted};
 ghost use Rattle.place.specs.Whole.{relengthAll};
 use buffer::get_u16;
@@ -14,6 +14,7 @@ use buffer::put_u16;
 use buffer::put_u32;
 use buffer::zero;
 use moves::move_down;
+use moves::move_up;
 
 // The first four bytes of a record of n bytes.
 pub fn put_head(buf: &mut [u8], at: usize, kind: usize, n: usize)
@@ -50,6 +51,16 @@ pub fn remove(buf: &mut [u8], at: usize, n: usize, used: usize)
 {
     move_down(buf, at + n, at, used - (at + n));
     zero(buf, used - n, n);
+}
+
+// Room for the unrolling of a record of n bytes, of which the first `own` are before its body. The body and what is behind it
+// move up in one piece, so that the body stands twice; then the record moves up by 4 bytes and makes room for a head.
+pub fn spread(buf: &mut [u8], at: usize, n: usize, own: usize, used: usize)
+    requires { ⌜ (own ≤ n) × (at + n ≤ used) × (used + (n - own) + 20 ≤ length (now buf)) ⌝ }
+    ensures { λ _. ⌜ now (buf .exit) ≡ spread (now (buf .entry)) at n own used ⌝ }
+{
+    move_up(buf, at + own, at + n + 20, used - (at + own));
+    move_up(buf, at, at + 4, n);
 }
 
 fn adjust(buf: &mut [u8], at: usize, up: usize, down: usize)

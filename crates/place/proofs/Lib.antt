@@ -9,6 +9,7 @@ pub mod PathLaws
 pub mod TermPathLaws
 pub mod WholeLaws
 pub mod EditLaws
+pub mod UnrolledLaws
 pub mod ProgramEditLaws
 pub mod TermEditLaws
 pub mod TermPutLaws

@@ -6,19 +6,20 @@ use lib.ListN.{drop, length, length-append, take}
 use lib.Seq.{length-take-le}
 use native.Mathlib.Omega.{arith}
 use Rattle.buffer.specs.LittleEndian.{le}
-use Rattle.buffer.specs.Slice.{part, put}
+use Rattle.buffer.specs.Slice.{put}
 use Rattle.rules.specs.Syntax.{Block, Bound, Expr, assign, empty, lit, loop, nest, upto}
 use Rattle.record.specs.Program.{blockSize, boundFrom, boundKind, boundNumber, encodeBlock, encodeBound, encodeExpr, exprFrom, exprKind, exprNumber}
 use Rattle.buffer.proofs.LittleEndianLaws.{length-le}
 use Rattle.buffer.proofs.SliceLaws.{put-re}
 use Rattle.record.proofs.ProgramLaws.{length-encodeBlock}
 use Rattle.record.proofs.ReadingLaws.{length-encodeLeaf}
-use Rattle.place.specs.Edit.{Cut, lead, leafBytes}
+use Rattle.place.specs.Edit.{Cut, lead, leafBytes, unrolled}
 use Rattle.place.specs.Heads.{recordHead}
 use Rattle.place.proofs.AtLaws.{put-take, split-take, take-split}
-use Rattle.place.proofs.EditLaws.{cut-re, length-lead, length-leafBytes, unrolled}
+use Rattle.place.proofs.EditLaws.{cut-re, length-lead, length-leafBytes}
 use Rattle.place.proofs.HeadsLaws.{length-recordHead}
 use Rattle.place.proofs.ProgramBytesLaws.{blockSize-assign, blockSize-empty, blockSize-loop, encodeBlock-assign, encodeBlock-empty, encodeBlock-loop, encodeBlock-nest, encodeLeaf-head}
+use Rattle.place.proofs.UnrolledLaws.{unrolled-take}
 
 -- THE PIECES
 
@@ -88,11 +89,9 @@ assign-literal l pre post p used x v e r h fits hp = assign-replaced l pre post 
 
 pub loop-unrolled : (l pre post : List ℕ) (p n used x q : ℕ) (e : Bound) (b r : Block) → take used l ≡ pre ++ (encodeBlock (loop x e b r) ++ post) → length pre ≡ p
     → n ≡ 20 + blockSize b → used + n ≤ length l
-    → (m₁ m₂ m₃ m₄ m₅ : List ℕ) → m₁ ≡ put l (p + n + 20) (part l (p + 20) (used - (p + 20))) → m₂ ≡ put m₁ (p + 4) (part m₁ p n) → m₃ ≡ put m₂ p (recordHead 1 (n + n))
-    → m₄ ≡ put m₃ (p + 12) (leafBytes 16 q) → m₅ ≡ put m₄ (p + 4 + n) (lead 2 16 x 16 (suc q))
-    → take (used + n) m₅ ≡ pre ++ (encodeBlock (nest (loop x (upto q) b (assign x (lit (suc q)) b)) r) ++ post)
+    → take (used + n) (unrolled l p n 20 used (recordHead 1 (n + n)) (leafBytes 16 q) (lead 2 16 x 16 (suc q))) ≡ pre ++ (encodeBlock (nest (loop x (upto q) b (assign x (lit (suc q)) b)) r) ++ post)
 unfolding exprKind exprNumber boundKind boundNumber
-loop-unrolled l pre post p n used x q e b r h hp hn fits m₁ m₂ m₃ m₄ m₅ e₁ e₂ e₃ e₄ e₅ =
+loop-unrolled l pre post p n used x q e b r h hp hn fits =
     let hd : List ℕ = recordHead 3 (20 + blockSize b) in
     let mid : List ℕ = recordHead 1 (4 + blockSize b) in
     let body : List ℕ = encodeBlock b in
@@ -101,8 +100,8 @@ loop-unrolled l pre post p n used x q e b r h hp hn fits m₁ m₂ m₃ m₄ m�
     let is : take used l ≡ pre ++ (hd ++ (le 4 x ++ (encodeBound e ++ (mid ++ (body ++ (encodeBlock r ++ post)))))) = h ∙ rw (encodeBlock-loop x e b r, encodeBlock-nest b r) (simp append-assoc) in
     let z : 4 + blockSize (loop x (upto q) b a) ≡ n + n = rw (blockSize-loop x (upto q) b a, blockSize-assign x (lit (suc q)) b) (omega arith) in
     let t =
-    unrolled l pre hd (le 4 x) (encodeBound e) mid body (encodeBlock r ++ post) (recordHead 1 (n + n)) (leafBytes 16 q) (lead 2 16 x 16 (suc q)) p n 20 used is (rw lb fits) hp
+    unrolled-take l pre hd (le 4 x) (encodeBound e) mid body (encodeBlock r ++ post) (recordHead 1 (n + n)) (leafBytes 16 q) (lead 2 16 x 16 (suc q)) p n 20 used is (rw lb fits) hp
     (length-recordHead 3 (20 + blockSize b)) (length-le 4 x) (length-encodeLeaf boundKind boundNumber boundFrom e) (ap (λ (y : ℕ). 16 + y) (length-recordHead 1 (4 + blockSize b))) lb
-    (length-recordHead 1 (n + n)) (length-leafBytes 16 q) (length-lead 2 16 x 16 (suc q)) m₁ m₂ m₃ m₄ m₅ e₁ e₂ e₃ e₄ e₅ in
+    (length-recordHead 1 (n + n)) (length-leafBytes 16 q) (length-lead 2 16 x 16 (suc q)) in
     rw lb at t
     ∙ rw (encodeBlock-nest (loop x (upto q) b a) r, z, encodeBlock-loop x (upto q) b a, encodeBound-leaf (upto q), encodeBlock-nest b a, encodeBlock-assign-lead x (lit (suc q)) b) (simp append-assoc)

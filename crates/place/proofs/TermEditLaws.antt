@@ -12,13 +12,14 @@ use Rattle.record.specs.Term.{atomFrom, atomKind, atomNumber, encodeAtom, encod
 use Rattle.buffer.proofs.LittleEndianLaws.{length-le}
 use Rattle.buffer.proofs.SliceLaws.{part-re, put-re}
 use Rattle.record.proofs.TermLaws.{length-encodeSimple}
-use Rattle.place.specs.Edit.{Cut, lead, leafBytes}
+use Rattle.place.specs.Edit.{Cut, lead, leafBytes, unrolled}
 use Rattle.place.specs.Heads.{recordHead}
 use Rattle.place.proofs.AtLaws.{split-take, take-split}
-use Rattle.place.proofs.EditLaws.{cut-re, length-lead, length-leafBytes, unrolled}
+use Rattle.place.proofs.EditLaws.{cut-re, length-lead, length-leafBytes}
 use Rattle.place.proofs.HeadsLaws.{length-recordHead, put-length}
 use Rattle.place.proofs.ProgramBytesLaws.{encodeLeaf-head}
 use Rattle.place.proofs.TermBytesLaws.{encodeSimple-plain, encodeTermRecord-letAll, encodeTermRecord-letOne, encodeTermRecord-rec, length-encodeAtom, length-encodeTermRecord, termSize-letOne, termSize-rec, termSize-tuple}
+use Rattle.place.proofs.UnrolledLaws.{unrolled-take}
 
 -- THE PIECES
 
@@ -126,28 +127,29 @@ rec-stopped l m₁ m₂ pre post p used x a ys t k d hk hd h fits hp e₁ c =
     ∙ simp append-assoc
 
 -- A REC OF q + 1 UNROLLED
-pub rec-unrolled : (l pre post : List ℕ) (p n used x q k : ℕ) (a : Atom) (ys : List Atom) (t : Term) → take used l ≡ pre ++ (encodeTermRecord (rec x a ys t) ++ post) → length pre ≡ p
-    → length ys ≡ k → n ≡ 24 + 8 * k + termSize t → used + (n - 8 * k) ≤ length l
-    → (m₁ m₂ m₃ m₄ m₅ : List ℕ) → m₁ ≡ put l (p + n + 20) (part l (p + (20 + 8 * k)) (used - (p + (20 + 8 * k)))) → m₂ ≡ put m₁ (p + 4) (part m₁ p n)
-    → m₃ ≡ put m₂ p (recordHead 38 (n + n - 8 * k)) → m₄ ≡ put m₃ (p + 12) (leafBytes 32 q) → m₅ ≡ put m₄ (p + 4 + n) (lead 37 (20 + termSize t) x 32 (suc q))
-    → take (used + (n - 8 * k)) m₅ ≡ pre ++ (encodeTermRecord (letAll (rec x (num q) ys t) (letOne x (plain (num (suc q))) t)) ++ post)
+pub rec-unrolled : (l pre post : List ℕ) (p up used x q k : ℕ) (a : Atom) (ys : List Atom) (t : Term) → take used l ≡ pre ++ (encodeTermRecord (rec x a ys t) ++ post) → length pre ≡ p
+    → length ys ≡ k → up ≡ 24 + termSize t → used + up ≤ length l
+    → take (used + up) (unrolled l p (up + 8 * k) (20 + 8 * k) used (recordHead 38 (up + 8 * k + up)) (leafBytes 32 q) (lead 37 (up - 4) x 32 (suc q)))
+    ≡ pre ++ (encodeTermRecord (letAll (rec x (num q) ys t) (letOne x (plain (num (suc q))) t)) ++ post)
 unfolding atomKind atomNumber simpleSize
-rec-unrolled l pre post p n used x q k a ys t h hp hk hn fits m₁ m₂ m₃ m₄ m₅ e₁ e₂ e₃ e₄ e₅ =
+rec-unrolled l pre post p up used x q k a ys t h hp hk hu fits =
+    let n : ℕ = up + 8 * k in
     let N : ℕ = 24 + 8 * length ys + termSize t in
     let hd : List ℕ = recordHead 39 N in
     let T : List ℕ = encodeTermRecord (tuple ys) in
     let lT : length T ≡ 4 + 8 * k = length-encodeTermRecord (tuple ys) ∙ rw (termSize-tuple ys, hk) in
     let B : List ℕ = encodeTermRecord t in
     let lB : length B ≡ 4 + termSize t = length-encodeTermRecord t in
-    let lb : 20 + length B ≡ n - 8 * k = omega arith in
+    let lb : 20 + length B ≡ up = omega arith in
     let u : Term = letOne x (plain (num (suc q))) t in
     let is : take used l ≡ pre ++ (hd ++ (le 4 x ++ (encodeAtom a ++ (T ++ (B ++ post))))) = h ∙ rw (encodeTermRecord-rec x a ys t) (simp append-assoc) in
     let zr : termSize (rec x (num q) ys t) ≡ 20 + 8 * k + termSize t = rw (← hk) (termSize-rec x (num q) ys t) in
     let zu : termSize u ≡ 16 + termSize t = termSize-letOne x (plain (num (suc q))) t in
-    let z : 12 + termSize (rec x (num q) ys t) + termSize u ≡ n + n - 8 * k = omega arith in
+    let z : 12 + termSize (rec x (num q) ys t) + termSize u ≡ n + up = omega arith in
+    let zl : 20 + termSize t ≡ up - 4 = omega arith in
     let w =
-    unrolled l pre hd (le 4 x) (encodeAtom a) T B post (recordHead 38 (n + n - 8 * k)) (leafBytes 32 q) (lead 37 (20 + termSize t) x 32 (suc q)) p n (20 + 8 * k) used is (rw lb fits) hp
-    (length-recordHead 39 N) (length-le 4 x) (length-encodeAtom a) (rw lT (omega arith)) (omega arith) (length-recordHead 38 (n + n - 8 * k)) (length-leafBytes 32 q)
-    (length-lead 37 (20 + termSize t) x 32 (suc q)) m₁ m₂ m₃ m₄ m₅ e₁ e₂ e₃ e₄ e₅ in
+    unrolled-take l pre hd (le 4 x) (encodeAtom a) T B post (recordHead 38 (n + up)) (leafBytes 32 q) (lead 37 (up - 4) x 32 (suc q)) p n (20 + 8 * k) used is (rw lb fits) hp
+    (length-recordHead 39 N) (length-le 4 x) (length-encodeAtom a) (rw lT (omega arith)) (omega arith) (length-recordHead 38 (n + up)) (length-leafBytes 32 q)
+    (length-lead 37 (up - 4) x 32 (suc q)) in
     rw lb at w
-    ∙ rw (encodeTermRecord-letAll (rec x (num q) ys t) u, z, encodeTermRecord-rec x (num q) ys t, encodeAtom-leaf (num q), encodeTermRecord-letOne-lead x (num (suc q)) t) (simp append-assoc)
+    ∙ rw (encodeTermRecord-letAll (rec x (num q) ys t) u, z, encodeTermRecord-rec x (num q) ys t, encodeAtom-leaf (num q), encodeTermRecord-letOne-lead x (num (suc q)) t, zl) (simp append-assoc)

@@ -1,4 +1,4 @@
--- Edits in place: bytes taken out of the first `used` of a list, and the pieces that are stored.
+-- Edits in place: bytes taken out of the first `used` of a list, the pieces that are stored, and a record unrolled.
 use Prim.Native.Nat.{_+_, _-_, ℕ}
 use mathlib.Core.Path.{_≡_}
 use mathlib.Core.List.{_++_, List}
@@ -31,3 +31,16 @@ leafBytes kind v = recordHead kind 8 ++ le 4 v
 -- record of a kind that holds one number.
 unfoldable pub lead : ℕ → ℕ → ℕ → ℕ → ℕ → List ℕ
 lead kind n x leaf v = recordHead kind n ++ (le 4 x ++ leafBytes leaf v)
+
+-- UNROLLING
+
+-- A record of n bytes at p, whose body starts s bytes on, with room made for its unrolling: the body and all behind it once
+-- more n + 20 bytes on, and the record itself 4 bytes on.
+unfoldable pub spread : List ℕ → ℕ → ℕ → ℕ → ℕ → List ℕ
+spread l p n s used =
+    let m : List ℕ = put l (p + n + 20) (part l (p + s) (used - (p + s))) in
+    put m (p + 4) (part m p n)
+
+-- The record unrolled: a head before it, a smaller count in it, and a lead behind it, before its body once more.
+unfoldable pub unrolled : List ℕ → ℕ → ℕ → ℕ → ℕ → List ℕ → List ℕ → List ℕ → List ℕ
+unrolled l p n s used head leaf led = put (put (put (spread l p n s used) p head) (p + 12) leaf) (p + 4 + n) led

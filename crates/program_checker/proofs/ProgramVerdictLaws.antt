@@ -1,7 +1,7 @@
 -- The verdict on a program's bytes, part by part.
-use Prim.Native.Nat.{_+_, _-_, _<_, ℕ, _≤_}
+use Prim.Native.Nat.{_+_, _<_, ℕ, _≤_}
 use mathlib.Core.Path.{ap, refl, sym, _∙_, _≡_}
-use mathlib.Core.Bool.{_&&_, Bool, and-true, false, true}
+use mathlib.Core.Bool.{_&&_, and-true, false}
 use mathlib.Core.List.{List}
 use mathlib.Core.Option.{Option, none, some}
 use lib.ListN.{drop, length, take}

@@ -17,7 +17,7 @@ use Rattle.rules.specs.Sound.{SoundTerm}
 use Rattle.rules.specs.Store.{fitsWord}
 use Rattle.rules.specs.Substitution.{Substitution, fromStore, only, substitute}
 use Rattle.rules.specs.Syntax.{Atom, Simple, Term, letAll, letOne, next, num, plain, rec, tuple}
-use Rattle.place.specs.Edit.{lead, leafBytes, removed}
+use Rattle.place.specs.Edit.{lead, leafBytes, removed, unrolled}
 use Rattle.place.specs.Heads.{recordHead, shifted}
 use Rattle.place.specs.Nesting.{around, plug, rests}
 use Rattle.place.specs.TermPath.{Redex, redex, redexLetAll, redexLetOne, redexRec, termPath, terms}
@@ -31,19 +31,20 @@ use Rattle.record.proofs.WordsLaws.{termSize-substitute}
 use Rattle.rules.proofs.FreeVariablesLaws.{closed-nums}
 use Rattle.rules.proofs.SoundTermLaws.{sound-closed}
 use Rattle.place.proofs.AtLaws.{put-take}
-use Rattle.place.proofs.EditLaws.{length-leafBytes, length-removed, removed-behind, removed-cut}
+use Rattle.place.proofs.EditLaws.{length-lead, length-leafBytes, length-removed, removed-behind, removed-cut}
+use Rattle.place.proofs.HeadsLaws.{length-recordHead}
 use Rattle.place.proofs.TermBytesLaws.{length-encodeTermRecord, termSize-letAll, termSize-letOne, termSize-rec, termSize-tuple}
 use Rattle.place.proofs.TermEditLaws.{letAll-gone, letOne-gone, letOne-set, rec-stopped, rec-unrolled}
 use Rattle.place.proofs.TermPathLaws.{termSize-plug}
 use Rattle.place.proofs.TermPutLaws.{put-letAll-last, put-letOne-last}
 use Rattle.place.proofs.TermViewLaws.{letAll-view, letOne-view, term-index, term-read, term-same}
+use Rattle.place.proofs.UnrolledLaws.{unrolled-behind}
 use Rattle.place.proofs.WholeLaws.{encodeTerm-relength, length-termFront}
 use Rattle.plan.specs.Plan.{Moves}
 use Rattle.plan.specs.declared.Plan.{Plan}
-use Rattle.reducing.specs.Perform.{Edited, Performed, PlanFits, Ready, filledAt, numeralAt, spread, stoppedAt, unrolledAt}
+use Rattle.reducing.specs.Perform.{Edited, Performed, PlanFits, Ready, filledAt, numeralAt, stoppedAt, unrolledAt}
 use Rattle.reducing.specs.State.{Stands}
 use Rattle.redex.specs.Plan.{planOf}
-use Rattle.reducing.proofs.EditedLaws.{unrolled-behind}
 use Rattle.reducing.proofs.PlanLaws.{Planned, planned-redex, plannedBind, plannedEvaluate, plannedFinished, plannedLeave, plannedOver, plannedStop, plannedUnroll, redex-reduces, size-plain, termSize-plain}
 use Rattle.reducing.proofs.StateLaws.{redex-bytes, redex-room, redex-sound, redex-stands, redex-used, stands-after, zeros-behind}
 
@@ -231,11 +232,10 @@ module _ {k : ℕ} {t : Term} {l : List ℕ} {used : ℕ} (h : Stands k t l used
 
   unroll-made : (x q : ℕ) (a : Atom) (ys : List Atom) (u : Term) → redex t ≡ rec x a ys u → reduce fitsWord (rec x a ys u) ≡ next (letAll (rec x (num q) ys u) (letOne x (plain (num (suc q))) u))
       → used + (24 + termSize u) ≤ length l → Made (24 + termSize u) 0 (unrolledAt l place k (24 + termSize u) used x (suc q))
-  unfolding spread unrolledAt
+  unfolding unrolledAt
   unroll-made x q a ys u is st fits =
       let up : ℕ = 24 + termSize u in
       let n : ℕ = up + 8 * k in
-      let s : ℕ = 20 + 8 * k in
       let t₀ : Term = rec x a ys u in
       let hk : length ys ≡ k = sound₀ t₀ is .2 in
       let b : Term = letOne x (plain (num (suc q))) u in
@@ -245,22 +245,13 @@ module _ {k : ℕ} {t : Term} {l : List ℕ} {used : ℕ} (h : Stands k t l used
       let y₂ : termSize (rec x (num q) ys u) ≡ 20 + 8 * length ys + termSize u = termSize-rec x (num q) ys u in
       let y₃ : termSize t₁ ≡ 8 + termSize (rec x (num q) ys u) + termSize b = termSize-letAll (rec x (num q) ys u) b in
       let order : place + n ≤ used = omega (arith, room₀ t₀ is) in
-      let grow : n - 8 * k ≡ up = omega arith in
-      let m₁ : List ℕ = put l (place + n + 20) (part l (place + s) (used - (place + s))) in
-      let m₂ : List ℕ = put m₁ (place + 4) (part m₁ place n) in
-      let m₃ : List ℕ = put m₂ place (recordHead 38 (n + up)) in
-      let m₄ : List ℕ = put m₃ (place + 12) (leafBytes 32 (suc q - 1)) in
-      let m₅ : List ℕ = put m₄ (place + 4 + n) (lead 37 (up - 4) x 32 (suc q)) in
-      let e₃ : n + up ≡ n + n - 8 * k = omega arith in
-      let e₄ : suc q - 1 ≡ q = omega arith in
-      let e₅ : up - 4 ≡ 20 + termSize u = omega arith in
-      let bytes : take (used + (n - 8 * k)) m₅ ≡ front t₀ is ++ (encodeTermRecord t₁ ++ rests terms (termPath t)) =
-      rec-unrolled l (front t₀ is) (rests terms (termPath t)) place n used x q k a ys u (bytes₀ t₀ is) (front₀ t₀ is) hk (omega arith) (omega arith) m₁ m₂ m₃ m₄ m₅ refl refl
-      (ap (λ (y : ℕ). put m₂ place (recordHead 38 y)) e₃) (ap (λ (y : ℕ). put m₃ (place + 12) (leafBytes 32 y)) e₄)
-      (ap (λ (y : ℕ). put m₄ (place + 4 + n) (lead 37 y x 32 (suc q))) e₅) in
-      made t₀ is t₁ m₅ up 0 (used + up) redexRec st (omega arith) (omega arith) fits
-      (ap (λ (y : ℕ). take (used + y) m₅) (sym grow) ∙ bytes)
-      (unrolled-behind l place k up used x (suc q) (omega arith) order fits ∙ zeros-behind h (used + up) (omega arith))
+      let less : suc q - 1 ≡ q = omega arith in
+      let m : List ℕ = unrolled l place n (20 + 8 * k) used (recordHead 38 (n + up)) (leafBytes 32 (suc q - 1)) (lead 37 (up - 4) x 32 (suc q)) in
+      made t₀ is t₁ m up 0 (used + up) redexRec st (omega arith) (omega arith) fits
+      (rw less (rec-unrolled l (front t₀ is) (rests terms (termPath t)) place up used x q k a ys u (bytes₀ t₀ is) (front₀ t₀ is) hk refl fits))
+      (unrolled-behind l _ _ _ place n (20 + 8 * k) used (used + up) (length-recordHead 38 (n + up)) (length-leafBytes 32 (suc q - 1)) (length-lead 37 (up - 4) x 32 (suc q)) (omega arith) order
+      (omega arith) fits
+      ∙ zeros-behind h (used + up) (omega arith))
 
   -- THE TERMS THAT ARE SUBSTITUTED INTO, and the numerals of a let-all's tuple
 

@@ -12,7 +12,7 @@ use Rattle.rules.specs.Syntax.{Term, next, num, tuple}
 use Rattle.record.specs.Answers.{padded}
 use Rattle.record.specs.Header.{contentsAt, encodeTerm}
 use Rattle.record.specs.Term.{encodeTermRecord}
-use Rattle.place.specs.Edit.{lead, leafBytes, removed}
+use Rattle.place.specs.Edit.{lead, leafBytes, removed, unrolled}
 use Rattle.place.specs.Heads.{recordHead}
 use Rattle.place.specs.TermView.{TermAt}
 use Rattle.filling.specs.Ranged.{RangedTerm}
@@ -37,16 +37,11 @@ numeralAt l p used v = put (put (removed l (p + 8) 4 used) p (le 2 (val (part l 
 unfoldable pub stoppedAt : List ℕ → ℕ → ℕ → ℕ → ℕ → List ℕ
 stoppedAt l p k n used = removed (put l p (part l (p + 16) (4 + 8 * k))) (p + (4 + 8 * k)) n used
 
--- A rec's record of n bytes at p, its body s bytes on, with room made for its unrolling: the body and all behind it once more
--- n + 20 bytes on, and the record itself 4 bytes on.
-unfoldable pub spread : List ℕ → ℕ → ℕ → ℕ → ℕ → List ℕ
-spread l p n s used = put (put l (p + n + 20) (part l (p + s) (used - (p + s)))) (p + 4) (part (put l (p + n + 20) (part l (p + s) (used - (p + s)))) p n)
-
 -- A rec of the variable x, with a start tuple of k atoms, whose count's value is v, unrolled into `up` bytes more: a let-all's
 -- head before it, the numeral v - 1 for its count, and a let-one of v before the body once more.
 unfoldable pub unrolledAt : List ℕ → ℕ → ℕ → ℕ → ℕ → ℕ → ℕ → List ℕ
 unrolledAt l p k up used x v =
-    put (put (put (spread l p (up + 8 * k) (20 + 8 * k) used) p (recordHead 38 (up + 8 * k + up))) (p + 12) (leafBytes 32 (v - 1))) (p + 4 + (up + 8 * k)) (lead 37 (up - 4) x 32 v)
+    unrolled l p (up + 8 * k) (20 + 8 * k) used (recordHead 38 (up + 8 * k + up)) (leafBytes 32 (v - 1)) (lead 37 (up - 4) x 32 v)
 
 -- What the edit of a plan makes of the bytes l, with the lengths around the redex still to be brought up to date. The terms that
 -- are substituted into are those that stand in l.

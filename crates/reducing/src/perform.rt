@@ -20,9 +20,9 @@ use edit::put_lead;
 use edit::put_leaf;
 use edit::relength;
 use edit::remove;
+use edit::spread;
 use filling::substitution::substitute_at;
 use moves::move_down;
-use moves::move_up;
 use numerals::values::from_tuple;
 use numerals::values::only;
 use plan::Plan;
@@ -71,18 +71,15 @@ fn stop(buf: &mut [u8], at: usize, k: u32, used: usize, down: usize)
     remove(buf, at + n, down, used);
 }
 
-// Rec of q + 1: a let-all of the rec of q and the body. The body and what is behind it move up in one piece, so that the body
-// stands twice; then the rec moves up by 4 bytes and makes room for the let-all's head.
+// Rec of q + 1: a let-all of the rec of q and the body.
 fn unroll(buf: &mut [u8], at: usize, k: u32, used: usize, up: usize, x: u32, v: u32)
     requires { ⌜ (24 ≤ up) × (at + (up + 8 * k) ≤ used) × (used + up ≤ length (now buf)) × (0 < v) × (length (now buf) ≤ 16384) ⌝ }
     ensures { λ _. ⌜ now (buf .exit) ≡ unrolledAt (now (buf .entry)) at k up used x v ⌝ }
 {
     let row = 8 * (k as usize);
     let n = up + row;
-    let body = at + (20 + row);
     let q = v - 1;
-    move_up(buf, body, at + n + 20, used - body);
-    move_up(buf, at, at + 4, n);
+    spread(buf, at, n, 20 + row, used);
     put_head(buf, at, LET_ALL, n + up);
     put_leaf(buf, at + 12, NUMERAL, q);
     put_lead(buf, at + 4 + n, LET_ONE, up - 4, x, NUMERAL, v);

@@ -1,10 +1,10 @@
 -- Laws of a plan made: each rule's edit, with the lengths brought up to date, is the rules' step.
-use Prim.Native.Nat.{ℕ, zero, suc, _*_, _+_, _-_, _<_, _≤_}
+use Prim.Native.Nat.{ℕ, suc, _*_, _+_, _-_, _<_, _≤_}
 use mathlib.Core.Path.{_≡_, _∙_, ap, refl, subst, sym}
 use mathlib.Core.List.{List, _++_}
 use lib.ListN.{drop, length, take}
 use native.Mathlib.Omega.{arith}
-use Rattle.buffer.specs.Slice.{part, put, zeros}
+use Rattle.buffer.specs.Slice.{put, zeros}
 use Rattle.buffer.proofs.SliceLaws.{drop-put, zeros-add}
 use Rattle.record.specs.Answers.{padded}
 use Rattle.record.specs.Program.{blockSize, encodeBlock}
@@ -13,8 +13,8 @@ use Rattle.rules.specs.Rules.{Step, at}
 use Rattle.rules.specs.Scope.{BlockWithin, Within}
 use Rattle.rules.specs.Step.{step}
 use Rattle.rules.specs.Store.{fitsWord, update}
-use Rattle.rules.specs.Syntax.{Answer, Block, Bound, Config, Expr, assign, empty, lit, loop, nest, next, upto}
-use Rattle.place.specs.Edit.{lead, leafBytes, removed}
+use Rattle.rules.specs.Syntax.{Block, Bound, Config, Expr, assign, empty, lit, loop, nest, next, upto}
+use Rattle.place.specs.Edit.{lead, leafBytes, removed, unrolled}
 use Rattle.place.specs.Heads.{recordHead, shifted}
 use Rattle.place.specs.Nesting.{around, plug, rests}
 use Rattle.place.specs.Path.{blocks, path, plugConfig, spot}
@@ -22,19 +22,19 @@ use Rattle.place.specs.Whole.{blockAt, programFront, relengthAll}
 use Rattle.record.proofs.PaddedLaws.{padded-zeros}
 use Rattle.record.proofs.HeaderLaws.{length-encodeProgram}
 use Rattle.rules.proofs.RulesLaws.{rules-step}
-use Rattle.place.proofs.EditLaws.{length-leafBytes, length-removed, removed-behind, removed-cut}
+use Rattle.place.proofs.EditLaws.{length-lead, length-leafBytes, length-removed, removed-behind, removed-cut}
 use Rattle.place.proofs.HeadsLaws.{length-recordHead}
 use Rattle.place.proofs.NestingLaws.{plug-keeps}
 use Rattle.place.proofs.PathLaws.{blockSize-plug, plug-some, plug-spot, step-spot}
 use Rattle.place.proofs.ProgramBytesLaws.{blockSize-assign, blockSize-empty, blockSize-loop, blockSize-nest}
 use Rattle.place.proofs.ProgramEditLaws.{assign-gone, assign-literal, loop-emptied, loop-unrolled, nest-gone}
+use Rattle.place.proofs.UnrolledLaws.{unrolled-behind}
 use Rattle.place.proofs.WholeLaws.{encodeProgram-relength, length-programFront}
 use Rattle.plan.specs.Plan.{Moves}
 use Rattle.plan.specs.declared.Plan.{Plan}
-use Rattle.stepping.specs.Perform.{Performed, PlanFits, Ready, edited, spread, stoppedAt, unrolledAt, valued}
+use Rattle.stepping.specs.Perform.{Performed, PlanFits, Ready, edited, stoppedAt, unrolledAt, valued}
 use Rattle.stepping.specs.Plan.{planOf}
 use Rattle.stepping.specs.State.{Stands, configBytes}
-use Rattle.stepping.proofs.EditedLaws.{unrolled-behind}
 use Rattle.stepping.proofs.PlanLaws.{Planned, planned-block, plannedBind, plannedEvaluate, plannedFinished, plannedLeave, plannedOver, plannedStop, plannedUnroll}
 use Rattle.stepping.proofs.StateLaws.{spot-bytes, spot-room, spot-used, stands-after, zeros-behind}
 
@@ -48,19 +48,6 @@ spot-steps P b s t b₀ is h r =
     let some : 0 < blockSize P = subst (λ (c : Block). 0 < blockSize c) (plug-spot P) (plug-some (path P) (spot P) (subst (λ (c : Block). 0 < blockSize c) (sym is) h)) in
     step-spot fitsWord P s some ∙ ap (λ (c : Block). onNext (plugConfig (path P)) (step fitsWord (at c s))) is ∙ ap (onNext (plugConfig (path P))) (rules-step fitsWord r)
     ∙ onNext-next (path P) b t
-
--- the stores of an unrolling, in the bytes of a loop
-unrolled-take : (l pre post : List ℕ) (p n used x q : ℕ) (e : Bound) (b r : Block) → take used l ≡ pre ++ (encodeBlock (loop x e b r) ++ post) → length pre ≡ p
-    → n ≡ 20 + blockSize b → used + n ≤ length l
-    → take (used + n) (unrolledAt l p n used x (suc q)) ≡ pre ++ (encodeBlock (nest (loop x (upto q) b (assign x (lit (suc q)) b)) r) ++ post)
-unfolding spread unrolledAt
-unrolled-take l pre post p n used x q e b r h hp hn fits =
-    let m₁ : List ℕ = put l (p + n + 20) (part l (p + 20) (used - (p + 20))) in
-    let m₂ : List ℕ = put m₁ (p + 4) (part m₁ p n) in
-    let m₃ : List ℕ = put m₂ p (recordHead 1 (n + n)) in
-    let m₄ : List ℕ = put m₃ (p + 12) (leafBytes 16 (suc q - 1)) in
-    let less : suc q - 1 ≡ q = omega arith in
-    loop-unrolled l pre post p n used x q e b r h hp hn fits m₁ m₂ m₃ m₄ (put m₄ (p + 4 + n) (lead 2 16 x 16 (suc q))) refl refl refl (ap (λ (y : ℕ). put m₃ (p + 12) (leafBytes 16 y)) less) refl
 
 module _ {k : ℕ} {P : Block} {s : List ℕ} {l : List ℕ} {used : ℕ} (h : Stands k (at P s) l used) where
   abbrev place : ℕ
@@ -176,6 +163,7 @@ module _ {k : ℕ} {P : Block} {s : List ℕ} {l : List ℕ} {used : ℕ} (h : S
 
   unroll-made : (x q : ℕ) (e : Bound) (b r : Block) → spot P ≡ loop x e b r → Step fitsWord (at (loop x e b r) s) (at (nest (loop x (upto q) b (assign x (lit (suc q)) b)) r) s)
       → used + (20 + blockSize b) ≤ length l → Made (20 + blockSize b) 0 (unrolledAt l place (20 + blockSize b) used x (suc q)) s
+  unfolding unrolledAt
   unroll-made x q e b r is st fits =
       let n : ℕ = 20 + blockSize b in
       let a : Block = assign x (lit (suc q)) b in
@@ -184,9 +172,13 @@ module _ {k : ℕ} {P : Block} {s : List ℕ} {l : List ℕ} {used : ℕ} (h : S
       let y₂ : blockSize (loop x (upto q) b a) ≡ 20 + blockSize b + blockSize a = blockSize-loop x (upto q) b a in
       let y₃ : blockSize (nest (loop x (upto q) b a) r) ≡ 4 + blockSize (loop x (upto q) b a) + blockSize r = blockSize-nest (loop x (upto q) b a) r in
       let order : place + n ≤ used = omega (arith, room₀ (loop x e b r) is) in
-      made (loop x e b r) is (nest (loop x (upto q) b a) r) s (unrolledAt l place n used x (suc q)) n 0 (used + n) (omega arith) st (omega arith) (omega arith) fits
-      (unrolled-take l (front (loop x e b r) is) (rests blocks (path P)) place n used x q e b r (bytes₀ (loop x e b r) is) (front₀ (loop x e b r) is) refl fits)
-      (unrolled-behind l place n used x (suc q) (omega arith) order fits ∙ zeros-behind h (used + n) (omega arith))
+      let less : suc q - 1 ≡ q = omega arith in
+      let m : List ℕ = unrolled l place n 20 used (recordHead 1 (n + n)) (leafBytes 16 (suc q - 1)) (lead 2 16 x 16 (suc q)) in
+      made (loop x e b r) is (nest (loop x (upto q) b a) r) s m n 0 (used + n) (omega arith) st (omega arith) (omega arith) fits
+      (rw less (loop-unrolled l (front (loop x e b r) is) (rests blocks (path P)) place n used x q e b r (bytes₀ (loop x e b r) is) (front₀ (loop x e b r) is) refl fits))
+      (unrolled-behind l _ _ _ place n 20 used (used + n) (length-recordHead 1 (n + n)) (length-leafBytes 16 (suc q - 1))
+      (length-lead 2 16 x 16 (suc q)) (omega arith) order (omega arith) fits
+      ∙ zeros-behind h (used + n) (omega arith))
 
   -- ANY PLAN
 

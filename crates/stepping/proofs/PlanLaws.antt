@@ -1,11 +1,11 @@
 -- Laws of the plan: what it says of the block that it is made for, and which of the paper's rules it is.
-use Prim.Native.Nat.{ℕ, zero, suc, _+_, _<_}
+use Prim.Native.Nat.{ℕ, zero, suc, _+_}
 use mathlib.Core.Path.{_≡_, refl}
 use mathlib.Core.Bool.{Bool, true, false}
 use mathlib.Core.List.{List}
 use Rattle.rules.specs.Rules.{Step, at, rule1, rule2, rule3, rule4, rule5, rule6, rule8, rule9}
 use Rattle.rules.specs.Step.{boundValue}
-use Rattle.rules.specs.Store.{fitsWord, lookup, minusOne, update}
+use Rattle.rules.specs.Store.{fitsWord, lookup, update}
 use Rattle.rules.specs.Syntax.{Expr, lit, var, inc, dec, Bound, upto, Block, empty, assign, loop, nest}
 use Rattle.record.specs.Program.{blockSize}
 use native.Mathlib.Omega.{arith}

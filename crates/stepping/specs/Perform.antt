@@ -3,13 +3,13 @@ use Prim.Native.Nat.{ℕ, _*_, _+_, _-_, _<_, _≤_}
 use mathlib.Core.Path.{_≡_}
 use mathlib.Core.List.{List}
 use lib.ListN.{length}
-use Rattle.buffer.specs.Slice.{part, put}
+use Rattle.buffer.specs.Slice.{put}
 use Rattle.rules.specs.Rules.{at}
 use Rattle.rules.specs.Scope.{Within}
 use Rattle.rules.specs.Step.{step}
 use Rattle.rules.specs.Store.{fitsWord, update}
 use Rattle.rules.specs.Syntax.{Block, Config, next}
-use Rattle.place.specs.Edit.{lead, leafBytes, removed}
+use Rattle.place.specs.Edit.{lead, leafBytes, removed, unrolled}
 use Rattle.place.specs.Heads.{recordHead}
 use Rattle.record.specs.Answers.{padded}
 use Rattle.record.specs.Header.{contentsAt}
@@ -22,16 +22,10 @@ use Rattle.stepping.specs.State.{Stands, configBytes}
 
 -- THE BYTES
 
--- A loop's record of n bytes at p with room made for its unrolling: its body and all behind it once more n + 20 bytes on, and
--- the record itself 4 bytes on.
-unfoldable pub spread : List ℕ → ℕ → ℕ → ℕ → List ℕ
-spread l p n used = put (put l (p + n + 20) (part l (p + 20) (used - (p + 20)))) (p + 4) (part (put l (p + n + 20) (part l (p + 20) (used - (p + 20)))) p n)
-
 -- A loop of the variable x whose bound's value is v, unrolled: a block's head before it, the literal v - 1 for its bound, and
 -- the assignment of v behind it.
 unfoldable pub unrolledAt : List ℕ → ℕ → ℕ → ℕ → ℕ → ℕ → List ℕ
-unrolledAt l p n used x v =
-    put (put (put (spread l p n used) p (recordHead 1 (n + n))) (p + 12) (leafBytes 16 (v - 1))) (p + 4 + n) (lead 2 16 x 16 v)
+unrolledAt l p n used x v = unrolled l p n 20 used (recordHead 1 (n + n)) (leafBytes 16 (v - 1)) (lead 2 16 x 16 v)
 
 -- A loop of which n bytes go, and an empty block's head stays.
 unfoldable pub stoppedAt : List ℕ → ℕ → ℕ → ℕ → List ℕ

@@ -15,7 +15,7 @@ use edit::put_lead;
 use edit::put_leaf;
 use edit::relength;
 use edit::remove;
-use moves::move_up;
+use edit::spread;
 use plan::Plan;
 use plan::Rule;
 use record::kind::ASSIGNMENT;
@@ -40,15 +40,13 @@ fn stop(buf: &mut [u8], at: usize, n: usize, used: usize)
     put_head(buf, at, BLOCK, 4);
 }
 
-// Rule 9: a loop's record of n bytes becomes a block's of n + n bytes. The body and what is behind it move up in one piece, so
-// that the body stands twice; then the loop moves up by 4 bytes and makes room for the block's head.
+// Rule 9: a loop's record of n bytes becomes a block's of n + n bytes: the loop of one time less, the index, and the body.
 fn unroll(buf: &mut [u8], at: usize, n: usize, used: usize, x: u32, v: u32)
     requires { ⌜ (20 ≤ n) × (at + n ≤ used) × (used + n ≤ length (now buf)) × (0 < v) × (n ≤ 16384) ⌝ }
     ensures { λ _. ⌜ now (buf .exit) ≡ unrolledAt (now (buf .entry)) at n used x v ⌝ }
 {
     let q = v - 1;
-    move_up(buf, at + 20, at + n + 20, used - (at + 20));
-    move_up(buf, at, at + 4, n);
+    spread(buf, at, n, 20, used);
     put_head(buf, at, BLOCK, n + n);
     put_leaf(buf, at + 12, LITERAL, q);
     put_lead(buf, at + 4 + n, ASSIGNMENT, 16, x, LITERAL, v);

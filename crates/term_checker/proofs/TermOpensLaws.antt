@@ -1,5 +1,5 @@
 -- What each head's check says of the whole term, from what it found of the parts.
-use Prim.Native.Nat.{_*_, _+_, _-_, suc, ℕ, _≤_, _<_}
+use Prim.Native.Nat.{_*_, _+_, _-_, suc, ℕ, _≤_}
 use mathlib.Core.Path.{_≡_, ap, ap₂, refl, sym, _∙_}
 use mathlib.Core.Bool.{Bool, false, true}
 use mathlib.Core.List.{List}

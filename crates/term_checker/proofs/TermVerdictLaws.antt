@@ -1,11 +1,11 @@
 -- The verdict on a term, from the verdicts on its parts.
 use Prim.Native.Nat.{ℕ}
-use mathlib.Core.Path.{_≡_, ap, ap₂, refl, sym, _∙_}
+use mathlib.Core.Path.{_≡_, ap, refl, sym, _∙_}
 use mathlib.Core.Bool.{_&&_, Bool}
 use mathlib.Core.List.{List, _∷_}
 use mathlib.Core.Option.{Option, none, some}
 use Rattle.rules.specs.Scope.{atomInRange, atomsInRange, inRange, simpleInRange, termInRange}
-use Rattle.rules.specs.Syntax.{Atom, Simple, Term, letAll, letOne, plain, predOf, rec, succOf, tuple}
+use Rattle.rules.specs.Syntax.{Atom, Simple, Term, letAll, letOne, rec, tuple}
 use Rattle.record.specs.Reading.{bind}
 use Rattle.record.proofs.AloneLaws.{bind-found, bind-none}
 use Rattle.checker.specs.declared.Verdict.{Verdict}

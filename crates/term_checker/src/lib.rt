@@ -1,7 +1,6 @@
 // The check of a term. Every function judges all of the slice that it is lent, so that what follows a part is never read as
 // a piece of it.
 ghost use mathlib.Core.Path.{_≡_};
-ghost use Prim.Native.Nat.{ℕ};
 ghost use Rattle.rules.specs.Scope.{atomInRange, atomsInRange, simpleInRange};
 ghost use Rattle.record.specs.Alone.{recordKind, onlySimple, onlyTuple};
 ghost use Rattle.record.specs.Header.{termIn};

@@ -2,7 +2,6 @@
 use borrow.Author.Needs.{needs}
 use Rattle.edit.proofs.remove.Statement.{statement}
 use Rattle.edit.proofs.remove.Tie as tie
-use native.Mathlib.Omega.{arith}
 use Prim.Native.Nat.{_+_, _-_}
 use mathlib.Core.Path.{refl}
 use Rattle.place.proofs.EditLaws.{closedUp-is, removed-is}

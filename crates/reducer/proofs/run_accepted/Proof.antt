@@ -1,7 +1,7 @@
 -- Between two reductions a closed term stands, and what is left to run from it comes to the whole run.
 use Rattle.reducer.proofs.run_accepted.Statement.{statement}
 use Rattle.reducer.proofs.run_accepted.Tie as tie
-use mathlib.Core.Path.{refl, sym, _∙_, _≡_}
+use mathlib.Core.Path.{sym, _∙_, _≡_}
 use lib.ListN.{length}
 use native.Mathlib.Omega.{arith}
 use borrow.Author.Needs.{needs}

@@ -2,7 +2,7 @@
 use borrow.Author.Needs.{needs}
 use Rattle.reducer.proofs.run_reducer.Statement.{statement}
 use Rattle.reducer.proofs.run_reducer.Tie as tie
-use mathlib.Core.Path.{sym, _∙_}
+use mathlib.Core.Path.{sym}
 use native.Mathlib.Omega.{arith}
 use Rattle.buffer.proofs.LittleEndianLaws.{bytes-of}
 use Rattle.reducer.proofs.CallLaws.{accepted-gives, accepts, refuses-open, refuses-record, takes}

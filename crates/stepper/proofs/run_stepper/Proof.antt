@@ -2,7 +2,7 @@
 use borrow.Author.Needs.{needs}
 use Rattle.stepper.proofs.run_stepper.Statement.{statement}
 use Rattle.stepper.proofs.run_stepper.Tie as tie
-use mathlib.Core.Path.{sym, _∙_}
+use mathlib.Core.Path.{sym}
 use native.Mathlib.Omega.{arith}
 use Rattle.buffer.proofs.LittleEndianLaws.{bytes-of}
 use Rattle.stepper.proofs.CallLaws.{accepted-gives, accepts, refuses-record, refuses-store}

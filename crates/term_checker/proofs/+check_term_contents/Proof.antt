@@ -16,7 +16,7 @@ use Rattle.record.specs.Header.{termIn}
 use Rattle.record.proofs.AloneLaws.{take-rest}
 use Rattle.checker.specs.Verdict.{worse}
 use Rattle.checker.proofs.VerdictLaws.{worse-comm}
-use Rattle.term_checker.specs.TermVerdict.{OpensTerm, termVerdict}
+use Rattle.term_checker.specs.TermVerdict.{termVerdict}
 use Rattle.term_checker.proofs.TermVerdictLaws.{worse-turn}
 
 abbrev μ-check-term-contents : Measures 1 check-term-contents-kinds.ps ℕ

@@ -4,7 +4,7 @@ use Prim.Native.Nat.{_*_, _-_, suc, ℕ}
 use mathlib.Core.Path.{_≡_, ap, refl, sym, _∙_}
 use native.Mathlib.Omega.{arith}
 use borrow.Author.Needs.{needs}
-use lib.ListN.{drop, length, length-drop, take}
+use lib.ListN.{length, length-drop}
 use lib.Seq.{length-take-le}
 use Rattle.rules.specs.Scope.{atomsInRange}
 use Rattle.record.specs.Term.{decodeAtoms}

@@ -1,7 +1,6 @@
 use borrow.Author.Needs.{needs}
 use Rattle.term_checker.proofs.open_let_one.Statement.{statement}
 use Rattle.term_checker.proofs.open_let_one.Tie as tie
-use mathlib.Core.Path.{ap}
 use native.Mathlib.Omega.{arith}
 use Rattle.record.proofs.TermReadLaws.{letOne-none}
 use Rattle.term_checker.proofs.TermOpensLaws.{letOne-opens, none-opens}

@@ -1,9 +1,9 @@
--- The two moves and the three stores are one edit; the bounds of all five follow from those of the first.
+-- The room made and the three stores are one edit.
 use borrow.Author.Needs.{needs}
 use Rattle.reducing.proofs.perform.unroll.Statement.{statement}
 use Rattle.reducing.proofs.perform.unroll.Tie as tie
-use mathlib.Core.Path.{refl}
-use Rattle.reducing.proofs.EditedLaws.{unrolled-is}
+use Rattle.place.proofs.UnrolledLaws.{unrolled-is}
+use Rattle.reducing.specs.Perform.{unrolledAt}
 
 mul-row : tie.Need-mul-row
 mul-row c = search needs
@@ -11,32 +11,14 @@ mul-row c = search needs
 add-n : tie.Need-add-n
 add-n c = search needs
 
-add-body : tie.Need-add-body
-add-body c = search needs
-
-add-body-2 : tie.Need-add-body-2
-add-body-2 c = search needs
-
 sub-q : tie.Need-sub-q
 sub-q c = search needs
 
-add-move-up : tie.Need-add-move-up
-add-move-up c = search needs
+add-spread : tie.Need-add-spread
+add-spread c = search needs
 
-add-move-up-2 : tie.Need-add-move-up-2
-add-move-up-2 c = search needs
-
-sub-move-up : tie.Need-sub-move-up
-sub-move-up c = search needs
-
-move-up-requires : tie.Need-move-up-requires
-move-up-requires c κs = search needs
-
-add-move-up-3 : tie.Need-add-move-up-3
-add-move-up-3 c = search needs
-
-move-up-requires-2 : tie.Need-move-up-requires-2
-move-up-requires-2 c κs = search needs
+spread-requires : tie.Need-spread-requires
+spread-requires c κs = search needs
 
 add-put-head : tie.Need-add-put-head
 add-put-head c = search needs
@@ -66,8 +48,9 @@ same-length : tie.Need-same-length
 same-length c = search needs
 
 returns : tie.Need-returns
+unfolding unrolledAt
 returns c =
-    unrolled-is (c .before .before .before .before .before .before .before .before .before .before .before .before .before .before .before .before .before .before .before .before .before .args .buf .now) _ _ _ _ _ (c .before .before .before .before .before .before .before .before .before .before .before .before .before .before .before .before .before .before .before .before .before .args .at) (c .before .before .before .before .before .before .before .before .before .before .before .before .before .before .before .before .before .before .before .before .before .args .k) (c .before .before .before .before .before .before .before .before .before .before .before .before .before .before .before .before .before .before .before .before .before .args .up) (c .before .before .before .before .before .before .before .before .before .before .before .before .before .before .before .before .before .before .before .before .before .args .used) (c .before .before .before .before .before .before .before .before .before .before .before .before .before .before .before .before .before .before .before .before .before .args .x) (c .before .before .before .before .before .before .before .before .before .before .before .before .before .before .before .before .before .before .before .before .before .args .v) _ _ refl refl (c .before .before .before .before .before .before .before .before .before .before .before .before .before .before .before .before .before .before .move-up .ensures) (c .before .before .before .before .before .before .before .before .before .before .before .before .before .before .move-up2 .ensures) (c .before .before .before .before .before .before .before .before .before .before .put-head .ensures) (c .before .before .before .before .before .before .put-leaf .ensures) (c .before .before .put-lead .ensures)
+    unrolled-is _ _ _ _ _ _ _ _ _ _ _ _ (c .before .before .before .before .before .before .before .before .before .before .before .before .before .before .spread .ensures) (c .before .before .before .before .before .before .before .before .before .before .put-head .ensures) (c .before .before .before .before .before .before .put-leaf .ensures) (c .before .before .put-lead .ensures)
 
 pub unroll-spec : {M : Type 1} → statement M
 unroll-spec =
@@ -75,15 +58,9 @@ unroll-spec =
     (tie.spec
     mul-row
     add-n
-    add-body
-    add-body-2
     sub-q
-    add-move-up
-    add-move-up-2
-    sub-move-up
-    move-up-requires
-    add-move-up-3
-    move-up-requires-2
+    add-spread
+    spread-requires
     add-put-head
     put-head-requires
     add-put-leaf

@@ -3,7 +3,7 @@ use Rattle.stepping.proofs.look.bound_value.Tie as tie
 use Rattle.stepping.proofs.look.bound_value.Reads as reads
 use Rattle.stepping.proofs.look.bound_value.Lts as lts
 use Rattle.run.proofs.value.value_of.Reads as value-of-reads
-use mathlib.Core.Path.{_≡_, refl, sym, ap, _∙_}
+use mathlib.Core.Path.{sym, ap, _∙_}
 use native.Mathlib.Omega.{arith}
 use Rattle.rules.specs.Store.{lookup}
 use Rattle.place.proofs.ProgramNumberLaws.{bound-literal, bound-lookup, bound-variable}

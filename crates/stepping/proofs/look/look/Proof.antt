@@ -6,12 +6,11 @@ use Rattle.buffer.proofs.get_u16.Reads as get-u16-reads
 use Rattle.stepping.proofs.look.look_assign.Reads as look-assign-reads
 use Rattle.stepping.proofs.look.look_loop.Reads as look-loop-reads
 use Rattle.stepping.proofs.look.open_levels.Reads as open-levels-reads
-use mathlib.Core.Path.{_≡_, refl, sym, ap, _∙_, subst}
-use Prim.Native.Nat.{ℕ, _+_, _*_}
+use mathlib.Core.Path.{_≡_, refl, sym, _∙_, subst}
+use Prim.Native.Nat.{_+_, _*_}
 use native.Mathlib.Omega.{arith}
 use lib.ListN.{length}
 use Rattle.place.specs.Path.{path, spot}
-use Rattle.place.specs.ProgramView.{BlockAt}
 use Rattle.place.proofs.ProgramViewLaws.{as-assign, as-loop, as-nest, block-index, block-room, block-same, command-kind}
 use Rattle.place.proofs.ProgramBytesLaws.{blockSize-some}
 use Rattle.rules.specs.Scope.{BoundWithin, ExprWithin}

@@ -7,7 +7,7 @@ use Rattle.buffer.proofs.get_u16.Reads as get-u16-reads
 use Rattle.buffer.proofs.get_u32.Reads as get-u32-reads
 use Rattle.run.proofs.value.minus_one.Reads as minus-one-reads
 use Rattle.run.proofs.value.value_of.Reads as value-of-reads
-use mathlib.Core.Path.{_≡_, refl, sym, ap, ap₂, _∙_}
+use mathlib.Core.Path.{_≡_, sym, ap, ap₂, _∙_}
 use Prim.Native.Nat.{ℕ, suc}
 use native.Mathlib.Omega.{arith}
 use Rattle.plan.specs.Plan.{plan, planRaise}

@@ -1,4 +1,3 @@
-use borrow.Author.Needs.{needs}
 use Rattle.stepping.proofs.look.look_loop.Statement.{statement}
 use Rattle.stepping.proofs.look.look_loop.Tie as tie
 use Rattle.stepping.proofs.look.look_loop.Reads as reads
@@ -6,7 +5,7 @@ use Rattle.stepping.proofs.look.look_loop.Lts as lts
 use Rattle.buffer.proofs.get_u16.Reads as get-u16-reads
 use Rattle.buffer.proofs.get_u32.Reads as get-u32-reads
 use Rattle.stepping.proofs.look.bound_value.Reads as bound-value-reads
-use mathlib.Core.Path.{_≡_, refl, sym, ap, ap₂, _∙_}
+use mathlib.Core.Path.{_≡_, sym, ap, ap₂, _∙_}
 use Prim.Native.Nat.{ℕ, _+_, _-_}
 use native.Mathlib.Omega.{arith}
 use Rattle.plan.specs.Plan.{plan}

@@ -3,14 +3,14 @@ use Rattle.stepping.proofs.look.open_levels.Tie as tie
 use Rattle.stepping.proofs.look.open_levels.Reads as reads
 use Rattle.stepping.proofs.look.open_levels.Lts as lts
 use Rattle.stepping.proofs.look.opens.Reads as opens-reads
-use mathlib.Core.Path.{_≡_, sym, ap, _∙_}
-use Prim.Native.Nat.{ℕ, _+_, _-_, _*_, _<_}
+use mathlib.Core.Path.{_≡_, sym, _∙_}
+use Prim.Native.Nat.{_+_, _-_, _*_, _<_}
 use native.Mathlib.Omega.{arith}
 use lib.ListN.{length}
 use Rattle.rules.specs.Syntax.{Block}
 use Rattle.record.specs.Program.{blockSize}
 use Rattle.place.specs.ProgramView.{BlockAt}
-use Rattle.place.specs.Path.{Walk, path}
+use Rattle.place.specs.Path.{Walk}
 use Rattle.place.proofs.PathLaws.{walk-start, walk-room, walk-next, walk-end}
 
 abbrev Inv-loop : tie.InvT-loop

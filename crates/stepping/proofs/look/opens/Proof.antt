@@ -4,7 +4,7 @@ use Rattle.stepping.proofs.look.opens.Tie as tie
 use Rattle.stepping.proofs.look.opens.Reads as reads
 use Rattle.stepping.proofs.look.opens.Lts as lts
 use Rattle.buffer.proofs.get_u16.Reads as get-u16-reads
-use mathlib.Core.Path.{_≡_, sym, ap, _∙_}
+use mathlib.Core.Path.{sym, _∙_}
 use Rattle.place.proofs.PathLaws.{opens-kind, opens-test}
 
 -- src/look.rt:23:29

@@ -1,35 +1,15 @@
--- The two moves and the three stores are one edit; the bounds of all five follow from those of the first.
+-- The room made and the three stores are one edit.
 use borrow.Author.Needs.{needs}
 use Rattle.stepping.proofs.perform.unroll.Statement.{statement}
 use Rattle.stepping.proofs.perform.unroll.Tie as tie
-use Rattle.stepping.proofs.EditedLaws.{unrolled-is}
+use Rattle.place.proofs.UnrolledLaws.{unrolled-is}
+use Rattle.stepping.specs.Perform.{unrolledAt}
 
 sub-q : tie.Need-sub-q
 sub-q c = search needs
 
-add-move-up : tie.Need-add-move-up
-add-move-up c = search needs
-
-add-move-up-2 : tie.Need-add-move-up-2
-add-move-up-2 c = search needs
-
-add-move-up-3 : tie.Need-add-move-up-3
-add-move-up-3 c = search needs
-
-add-move-up-4 : tie.Need-add-move-up-4
-add-move-up-4 c = search needs
-
-sub-move-up : tie.Need-sub-move-up
-sub-move-up c = search needs
-
-move-up-requires : tie.Need-move-up-requires
-move-up-requires c κs = search needs
-
-add-move-up-5 : tie.Need-add-move-up-5
-add-move-up-5 c = search needs
-
-move-up-requires-2 : tie.Need-move-up-requires-2
-move-up-requires-2 c κs = search needs
+spread-requires : tie.Need-spread-requires
+spread-requires c κs = search needs
 
 add-put-head : tie.Need-add-put-head
 add-put-head c = search needs
@@ -56,23 +36,16 @@ same-length : tie.Need-same-length
 same-length c = search needs
 
 returns : tie.Need-returns
+unfolding unrolledAt
 returns c =
-    let a = c .before .before .before .before .before .before .before .before .before .before .before .before .before .before .before .before .before .before .before .before .before .args in
-    unrolled-is (a .buf .now) _ _ _ _ _ (a .at) (a .n) (a .used) (a .x) (a .v) (c .before .before .before .before .before .before .before .before .before .before .before .before .before .before .before .before .before .before .move-up .ensures) (c .before .before .before .before .before .before .before .before .before .before .before .before .before .before .move-up2 .ensures) (c .before .before .before .before .before .before .before .before .before .before .put-head .ensures) (c .before .before .before .before .before .before .put-leaf .ensures) (c .before .before .put-lead .ensures)
+    unrolled-is _ _ _ _ _ _ _ _ _ _ _ _ (c .before .before .before .before .before .before .before .before .before .before .before .before .before .before .spread .ensures) (c .before .before .before .before .before .before .before .before .before .before .put-head .ensures) (c .before .before .before .before .before .before .put-leaf .ensures) (c .before .before .put-lead .ensures)
 
 pub unroll-spec : {M : Type 1} → statement M
 unroll-spec =
     tie.close
     (tie.spec
     sub-q
-    add-move-up
-    add-move-up-2
-    add-move-up-3
-    add-move-up-4
-    sub-move-up
-    move-up-requires
-    add-move-up-5
-    move-up-requires-2
+    spread-requires
     add-put-head
     put-head-requires
     add-put-leaf
