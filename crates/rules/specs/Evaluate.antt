@@ -26,6 +26,7 @@ assignSteps (var x) = 1
 assignSteps (inc x) = 2
 assignSteps (dec x) = 2
 
+-- The value of an expression in the store s.
 unfoldable pub exprValue : List ℕ → Expr → ℕ
 exprValue s (lit n) = n
 exprValue s (var x) = lookup s x
@@ -37,6 +38,7 @@ unfoldable pub turns : (List ℕ → Evaluated) → ℕ → ℕ → List ℕ →
 turns body x zero s = record { steps = 2; store = s }
 turns body x (suc q) s = after 1 (thenEvaluate (turns body x q s) (λ μ. thenEvaluate (after 1 (body (update μ x (suc q)))) (λ ν. record { steps = 1; store = ν })))
 
+-- The steps that a block takes to its end from a store, and the store there.
 unfoldable pub evaluate : Block → List ℕ → Evaluated
 evaluate empty s = record { steps = 0; store = s }
 evaluate (assign x e r) s = after (assignSteps e) (evaluate r (update s x (exprValue s e)))

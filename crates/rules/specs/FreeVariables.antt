@@ -8,6 +8,7 @@ use Rattle.rules.specs.Syntax.{Atom, Simple, Term, letAll, letOne, num, 
 
 -- THE FACT
 
+-- The one atom in what a let-one binds.
 abbrev pub atomOfSimple : Simple → Atom
 atomOfSimple (plain a) = a
 atomOfSimple (succOf a) = a
@@ -30,31 +31,39 @@ pub data Free (x : ℕ) : Term → Type 0 where
 
 -- THE TEST: no variable is free but those of S
 
+-- A set of variables, as a test of a variable's number.
 abbrev pub Vars : Type 0
 Vars = ℕ → Bool
 
+-- The set of no variable.
 abbrev pub noVars : Vars
 noVars y = false
 
+-- The set of every variable.
 abbrev pub allVars : Vars
 allVars y = true
 
+-- The variables of S, and x.
 unfoldable pub adding : ℕ → Vars → Vars
 adding x S y = cond (eqb y x) true (S y)
 
+-- The atom is a numeral, or a variable of S.
 unfoldable pub closedAtom : Vars → Atom → Bool
 closedAtom S (num n) = true
 closedAtom S (ref x) = S x
 
+-- The same of a row of atoms.
 unfoldable pub closedAtoms : Vars → List Atom → Bool
 closedAtoms S [] = true
 closedAtoms S (a ∷ l) = closedAtom S a && closedAtoms S l
 
+-- The same of the atom in what a let-one binds.
 unfoldable pub closedSimple : Vars → Simple → Bool
 closedSimple S (plain a) = closedAtom S a
 closedSimple S (succOf a) = closedAtom S a
 closedSimple S (predOf a) = closedAtom S a
 
+-- No variable is free in the term but those of S.
 unfoldable pub closedIn : Vars → Term → Bool
 closedIn S (tuple l) = closedAtoms S l
 closedIn S (letOne x s t) = closedSimple S s && closedIn (adding x S) t

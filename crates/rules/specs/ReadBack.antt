@@ -7,12 +7,14 @@ use lib.Dec.{eqb}
 use Rattle.rules.specs.Syntax.{Atom, Block, Bound, Expr, Simple, Term, assign, dec, empty, inc, letAll, letOne, lit, loop, nest, num, plain, predOf, rec, ref, succOf, tuple, upto, uptoVar, var}
 use Rattle.rules.specs.Translation.{all}
 
+-- Two atoms are the same.
 unfoldable pub sameAtom : Atom → Atom → Bool
 sameAtom (num m) (num n) = eqb m n
 sameAtom (num m) (ref y) = false
 sameAtom (ref x) (num n) = false
 sameAtom (ref x) (ref y) = eqb x y
 
+-- Two rows of atoms are the same.
 unfoldable pub sameAtoms : List Atom → List Atom → Bool
 sameAtoms [] [] = true
 sameAtoms [] (b ∷ m) = false
@@ -28,6 +30,7 @@ exprOf (succOf (ref x)) = some (inc x)
 exprOf (predOf (num n)) = none
 exprOf (predOf (ref x)) = some (dec x)
 
+-- The loop's bound that a rec's count is the translation of.
 unfoldable pub boundOf : Atom → Bound
 boundOf (num n) = upto n
 boundOf (ref x) = uptoVar x
@@ -38,12 +41,14 @@ pub data Source : Type 0 where
   aLoop : ℕ → Bound → Block → Source
   nothing : Source
 
+-- Of a let-one: the assignment of its expression in front of the block of its last term; else nothing.
 unfoldable pub sourceLetOne : ℕ → Option Expr → Source → Source
 sourceLetOne x none o = nothing
 sourceLetOne x (some e) (aBlock r) = aBlock (assign x e r)
 sourceLetOne x (some e) (aLoop y b c) = nothing
 sourceLetOne x (some e) nothing = nothing
 
+-- Of a let-all: the block or the loop of its first term in front of the block of its last term; else nothing.
 unfoldable pub sourceLetAll : Source → Source → Source
 sourceLetAll (aBlock b) (aBlock r) = aBlock (nest b r)
 sourceLetAll (aBlock b) (aLoop y d c) = nothing
@@ -53,18 +58,21 @@ sourceLetAll (aLoop x e b) (aLoop y d c) = nothing
 sourceLetAll (aLoop x e b) nothing = nothing
 sourceLetAll nothing o = nothing
 
+-- Of a rec whose start tuple is all: the loop around the block of its body; else nothing.
 unfoldable pub sourceRec : ℕ → Bound → Bool → Source → Source
 sourceRec x b false o = nothing
 sourceRec x b true (aBlock c) = aLoop x b c
 sourceRec x b true (aLoop y d c) = nothing
 sourceRec x b true nothing = nothing
 
+-- What a term is the translation of, with k variables.
 unfoldable pub source : ℕ → Term → Source
 source k (tuple l) = cond (sameAtoms l (all k)) (aBlock empty) nothing
 source k (letOne x s t) = sourceLetOne x (exprOf s) (source k t)
 source k (letAll t u) = sourceLetAll (source k t) (source k u)
 source k (rec x a l t) = sourceRec x (boundOf a) (sameAtoms l (all k)) (source k t)
 
+-- The block, where the source is one.
 unfoldable pub blockOfSource : Source → Option Block
 blockOfSource (aBlock b) = some b
 blockOfSource (aLoop x b c) = none

@@ -41,10 +41,12 @@ pub data Reduce (ok : ℕ → Bool) : Term → Term → Type 0 where
 
 -- OVER: the value n that the next step works out as a plus one, by rule 1 under rules 5 and 7, and by succ in a let-one.
 
+-- Of a configuration: the plus one of the assignment that stands first, in however many blocks, gives n.
 pub data Raises : Config → ℕ → Type 0 where
   raisesHere : {x y : ℕ} {s : Block} {μ : List ℕ} → Raises (at (assign x (inc y) s) μ) (suc (lookup μ y))
   raisesInside : {c s : Block} {μ : List ℕ} {n : ℕ} → Raises (at c μ) n → Raises (at (nest c s) μ) n
 
+-- Of a term: the succ of the let-one that is reduced next, in the first terms of however many let-alls, gives n.
 pub data RaisesTerm : Term → ℕ → Type 0 where
   raisesLet : {x v : ℕ} {t : Term} → RaisesTerm (letOne x (succOf (num v)) t) (suc v)
   raisesFirst : {t u : Term} {n : ℕ} → RaisesTerm t n → RaisesTerm (letAll t u) n

@@ -8,6 +8,7 @@ use Rattle.rules.specs.Syntax.{Answer, finished, next, over}
 
 -- ANY NUMBER OF STEPS
 
+-- What `more` makes of the next state, where there is one.
 unfoldable pub orStop : {A : Type 0} → Answer A → (A → Option A) → Option A
 orStop (finished vs) more = none
 orStop over more = none
@@ -41,16 +42,20 @@ module _ {A : Type 0} (f : A → Answer A) (fits : A → Bool) where
   outcomeOf over = isOver
   outcomeOf (next b) = cond (fits b) spent noRoom
 
+  -- A run that makes no step: a is the state left, and the outcome is read from it.
   unfoldable pub stop : A → Ran A
   stop a = record { count = 0; outcome = outcomeOf (f a); state = a }
 
+  -- The run r with one step more in its count.
   unfoldable pub oneMore : Ran A → Ran A
   oneMore r = record { count = suc (r .count); outcome = r .outcome; state = r .state }
 
+  -- By whether the next state b fits: a step to b and what `more` makes of it, or a stop at a.
   unfoldable pub goOn : A → Bool → (A → Ran A) → A → Ran A
   goOn a false more b = stop a
   goOn a true more b = oneMore (more b)
 
+  -- By what a step of a comes to: it goes on where there is a next state and that fits, and else stops at a.
   unfoldable pub runOn : A → (A → Ran A) → Answer A → Ran A
   runOn a more (finished vs) = stop a
   runOn a more over = stop a

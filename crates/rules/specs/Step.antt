@@ -29,6 +29,7 @@ stepAssign ok x (var y) r s = next (record { block = r; store = update s x (look
 stepAssign ok x (inc y) r s = cond (ok (suc (lookup s y))) (next (record { block = assign x (lit (suc (lookup s y))) r; store = s })) over
 stepAssign ok x (dec y) r s = next (record { block = assign x (lit (minusOne (lookup s y))) r; store = s })
 
+-- One step of a block on a store, by the command that stands first; with no command left it is finished.
 unfoldable pub stepBlock : (ℕ → Bool) → Block → List ℕ → Answer Config
 stepBlock ok empty s = finished s
 stepBlock ok (assign x e r) s = stepAssign ok x e r s

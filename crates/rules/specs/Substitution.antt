@@ -25,14 +25,17 @@ only x v y = cond (eqb y x) (some v) none
 unfoldable pub except : ℕ → Substitution → Substitution
 except x f y = cond (eqb y x) none (f y)
 
+-- The numeral of the value that variable x is given, or x itself where it is given none.
 unfoldable pub orRef : ℕ → Option ℕ → Atom
 orRef x none = ref x
 orRef x (some v) = num v
 
+-- An atom with its variable replaced, where f gives that a value.
 unfoldable pub substituteAtom : Substitution → Atom → Atom
 substituteAtom f (num n) = num n
 substituteAtom f (ref x) = orRef x (f x)
 
+-- The same of the atom in what a let-one binds.
 unfoldable pub substituteSimple : Substitution → Simple → Simple
 substituteSimple f (plain a) = plain (substituteAtom f a)
 substituteSimple f (succOf a) = succOf (substituteAtom f a)
