@@ -37,7 +37,7 @@ pub record ConfigWithin (k : ℕ) (c : Config) : Type 0 where
   pub block : BlockWithin k (c .block)
   pub size : length (c .store) ≡ k
 
--- The same of terms: every variable number in it, bound or free.
+-- The same of an atom.
 abbrev pub AtomWithin : ℕ → Atom → Type 0
 AtomWithin k (num n) = Unit {0}
 AtomWithin k (ref x) = Within k x
@@ -53,7 +53,7 @@ SimpleWithin k (plain a) = AtomWithin k a
 SimpleWithin k (succOf a) = AtomWithin k a
 SimpleWithin k (predOf a) = AtomWithin k a
 
--- The same of every variable number in a term.
+-- The same of every variable number in a term, bound or free.
 abbrev pub TermWithin : ℕ → Term → Type 0
 TermWithin k (tuple l) = AtomsWithin k l
 TermWithin k (letOne x s t) = Within k x × SimpleWithin k s × TermWithin k t
