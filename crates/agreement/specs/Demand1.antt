@@ -20,6 +20,7 @@ pub record Numbers (rows : List Row) (n : ℕ) : Type 0 where
   pub none : (n ≡ 0) ↔ NoRow rows
   pub first : First rows n
 
+-- The demand, of each of the nine calls and whatever is lent.
 pub record Demand1 : Type 0 where
   -- every call gives the first row of its own that applies
   pub checkProgramNumber : (buf : List ℕ) (used : ℕ) → Numbers (checkProgramRows buf used) ((checkProgram buf used) .number)

@@ -27,6 +27,7 @@ use Rattle.term.specs.CallMeaning.{CallsMean}
 use Rattle.weighing.specs.WeighMeaning.{WeighMeans}
 use Rattle.agreement.specs.Loads.{budget}
 
+-- The demand, in four parts: the rules, the rows and the other calls, the checks, the runs.
 pub record Demand2 : Type 0 where
   -- THE RULES: a step, and a reduction of a closed term, is one of the paper's; over is a value that the rule works out and
   -- that is too large; finished is the empty block, and the tuple

@@ -65,6 +65,7 @@ startWorld k P μ s = record {
 abbrev pub Finished : Block → Type 0
 Finished Q = Q ≡ empty
 
+-- The same of the reducer's term.
 abbrev pub FinishedTerm : Term → Type 0
 FinishedTerm t = (l : List Atom) × (t ≡ tuple l)
 
@@ -72,9 +73,12 @@ FinishedTerm t = (l : List Atom) × (t ≡ tuple l)
 abbrev pub Over : Block → List ℕ → Type 0
 Over Q μ = step fitsWord (record { block = Q; store = μ }) ≡ over
 
+-- The same of the reducer's term.
 abbrev pub OverTerm : Term → Type 0
 OverTerm t = reduce fitsWord t ≡ over
 
+-- The engines agree in the world w: in their states, in being finished, in being over, and in the values that they show
+-- (01 "Run orders").
 pub record Agree (k : ℕ) (w : World) : Type 0 where
   -- the program and the term that stand in the two buffers; their numbers take 4 bytes, so that the bytes are no others'
   pub Q : Block
@@ -99,6 +103,7 @@ Demand3 = (k : ℕ) (P : Block) (μ : List ℕ) (s : Start k P μ) (os : List Or
 
 -- BESIDE IT: what is refused in such a list, and that nothing else is
 
+-- The orders that are refused in the world w, and those that are accepted (01 "Run orders").
 pub record Refuses (k : ℕ) (w : World) : Type 0 where
   -- another used length than the stepper's last accepted order gave, whatever store is lent
   pub stepperUsed : (used : ℕ) (xs : List ℕ) (budget : ℕ) → (used ≡ w .stepperUsed → ⊥) → (runStepper (w .stepperBuf) used xs budget) .answer .number ≡ 0 → ⊥
@@ -110,6 +115,7 @@ pub record Refuses (k : ℕ) (w : World) : Type 0 where
   pub stepperTakes : (budget : ℕ) → length (w .stepperBuf) ≤ 16384 → (runStepper (w .stepperBuf) (w .stepperUsed) (w .store) budget) .answer .number ≡ 0
   pub reducerTakes : (budget : ℕ) → length (w .reducerBuf) ≤ 16384 → (runReducer (w .reducerBuf) (w .reducerUsed) budget) .answer .number ≡ 0
 
+-- So it is for every start and after every list of orders.
 unfoldable pub Demand3Refusals : Type 0
 Demand3Refusals = (k : ℕ) (P : Block) (μ : List ℕ) (s : Start k P μ) (os : List Order) → AllAllowed k os → Refuses k (play (startWorld k P μ s) os)
 

@@ -48,22 +48,27 @@ shownBy noRoom values = []
 shownBy spent values = []
 shownBy refused values = []
 
+-- The budget of each of these runs (01 "Bench loads", last part).
 unfoldable pub budget : ℕ
 budget = 1000000
 
 -- ON THE RULES THEMSELVES
 
+-- What a run of the stepper's rules ends in.
 unfoldable pub stepperEnding : Ran Config → Ending
 stepperEnding r = record { outcome = r .outcome; steps = r .count; values = r .state .store }
 
+-- The same of the reducer's.
 unfoldable pub reducerEnding : Ran Term → Ending
 reducerEnding r = record { outcome = r .outcome; steps = r .count; values = numerals (r .state) }
 
+-- The configuration at the start: the program and the store.
 unfoldable pub configOfLoad : Load → Config
 configOfLoad l = record { block = l .program; store = l .store }
 
 -- OVER BYTES: check, translate, substitute, run both, result
 
+-- What the check answers, the two records' lengths, their bytes where 01 prints them, and what the four runs end in.
 pub record Shown : Type 0 where
   pub checked : Checked
   pub programLength : ℕ
@@ -75,15 +80,19 @@ pub record Shown : Type 0 where
   pub byteStepper : Ending
   pub byteReducer : Ending
 
+-- The program's record.
 unfoldable pub programBytesOf : Load → List ℕ
 programBytesOf l = encodeProgram (l .k) (l .program)
 
+-- What translate answers, the reducer's buffer being its output buffer.
 unfoldable pub translatedOf : Load → Wrote
 translatedOf l = translateCall (programBytesOf l) (length (programBytesOf l)) (replicate (l .reducerRoom) 0)
 
+-- What substitute answers, of what translate wrote and of the store.
 unfoldable pub substitutedOf : Load → Wrote → Wrote
 substitutedOf l t = substituteCall (t .written) (t .used) (l .store)
 
+-- What a call of the stepper ends in.
 unfoldable pub endingOfStepper : StepperCall → Ending
 endingOfStepper r = record { outcome = r .answer .outcome; steps = r .answer .steps; values = r .store }
 
@@ -91,9 +100,11 @@ endingOfStepper r = record { outcome = r .answer .outcome; steps = r .answer .st
 unfoldable pub acceptedValues : Stored → List ℕ
 acceptedValues s = shownBy (cond (eqb (s .number) 0) isFinished refused) (s .store)
 
+-- The same of the reducer: its values are those that result copies of the term left.
 unfoldable pub endingOfReducer : List ℕ → ReducerCall → Ending
 endingOfReducer store r = record { outcome = r .answer .outcome; steps = r .answer .steps; values = acceptedValues (resultCall (r .buf) (r .answer .used) store) }
 
+-- What is shown, by what translate and substitute answered.
 unfoldable pub shownFrom : Load → Wrote → Wrote → Shown
 shownFrom l t s = record {
   checked = checkProgram (programBytesOf l) (length (programBytesOf l));
@@ -107,14 +118,17 @@ shownFrom l t s = record {
   byteReducer = endingOfReducer (l .store) (runReducer (s .written) (s .used) budget);
 }
 
+-- What is shown, on the rules themselves and over bytes through the calls.
 unfoldable pub shown : Load → Shown
 shown l = shownFrom l (translatedOf l) (substitutedOf l (translatedOf l))
 
 -- WHAT IS EXPECTED
 
+-- The reducer's expected ending, from the stepper's: values only where it is finished.
 unfoldable pub reducerExpected : Ending → Ending
 reducerExpected e = record { outcome = e .outcome; steps = e .steps; values = shownBy (e .outcome) (e .values) }
 
+-- What is expected: the check accepts, the two records are as said, and both engines end as said.
 unfoldable pub expected : Load → Shown
 expected l = record {
   checked = record { number = 0; k = l .k };
@@ -134,6 +148,8 @@ expected l = record {
 abbrev pub add : Block
 add = assign 3 (var 1) (loop 4 (uptoVar 2) (assign 3 (inc 3) empty) empty)
 
+-- An entry whose bytes 01 does not print: k, program, store, the lengths of the two buffers and of the two records, outcome,
+-- steps, values.
 abbrev pub load : ℕ → Block → List ℕ → ℕ → ℕ → ℕ → ℕ → Outcome → ℕ → List ℕ → Load
 load k p s a b n m o c v = record {
   k = k;
@@ -148,6 +164,7 @@ load k p s a b n m o c v = record {
   ending = record { outcome = o; steps = c; values = v };
 }
 
+-- P1 to P9, and one more against the last of 01's mistakes that pass a quick trial.
 unfoldable pub loads : List Load
 loads =
     -- P1, in the 156 and 384 bytes that it needs: finished, 18 steps; and with 155 and 383 both stop at 3 with no room

@@ -28,6 +28,7 @@ pub record World : Type 0 where
   pub reducerUsed : ℕ
   pub reducerTotal : ℕ
 
+-- The values that an order to the stepper is lent in the world w.
 unfoldable pub lentStore : World → Lent → List ℕ
 lentStore w own = w .store
 lentStore w (other xs) = xs
@@ -54,6 +55,7 @@ afterStepper w lent r = record {
   reducerTotal = w .reducerTotal;
 }
 
+-- The same after an order to the reducer, which leaves the store alone.
 unfoldable pub afterReducer : World → ReducerCall → World
 afterReducer w r = record {
   stepperBuf = w .stepperBuf;
@@ -80,5 +82,6 @@ Allowed k (toStepper used own budget) = Unit {0}
 Allowed k (toStepper used (other xs) budget) = length xs ≡ k → ⊥
 Allowed k (toReducer used budget) = Unit {0}
 
+-- Every order of the list is allowed.
 abbrev pub AllAllowed : ℕ → List Order → Type 0
 AllAllowed k os = Each (Allowed k) os

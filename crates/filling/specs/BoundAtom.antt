@@ -6,6 +6,7 @@ use lib.Dec.{ltb}
 use Rattle.buffer.specs.LittleEndian.{val}
 use Rattle.buffer.specs.Slice.{part}
 
+-- By whether the let-one at index p binds the atom itself, and not succ or pred of it.
 unfoldable pub boundAtomIf : Bool → ℕ → ℕ
 boundAtomIf true p = p + 8
 boundAtomIf false p = p + 12

@@ -8,6 +8,7 @@ use Rattle.place.specs.TermView.{AtomAt, AtomsAt, TermAt}
 use Rattle.rules.specs.Scope.{AtomWithin, AtomsWithin, TermWithin}
 use Rattle.rules.specs.Syntax.{Atom, Term}
 
+-- The atom a stands at index p of the bytes l.
 pub record RangedAtom (l : List ℕ) (p : ℕ) (a : Atom) : Type 0 where
   pub here : AtomAt l p a
   pub range : AtomWithin 16 a

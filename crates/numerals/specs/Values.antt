@@ -8,6 +8,7 @@ use lib.ListN.{getD}
 use Rattle.rules.specs.Store.{wordLimit}
 use Rattle.rules.specs.Substitution.{Substitution}
 
+-- The number v where it is a value, and else none.
 unfoldable pub valueIf : Bool → ℕ → Option ℕ
 valueIf true v = some v
 valueIf false v = none

@@ -13,6 +13,7 @@ unfoldable pub decimalBy : (ℕ → List ℕ) → Bool → ℕ → List ℕ
 decimalBy more true n = digit n ∷ []
 decimalBy more false n = more (n / 10) ++ (digit (n % 10) ∷ [])
 
+-- The last digits of n, at most so many as the first number says.
 unfoldable pub decimalWithin : ℕ → ℕ → List ℕ
 decimalWithin zero n = []
 decimalWithin (suc fuel) n = decimalBy (λ m. decimalWithin fuel m) (ltb n 10) n

@@ -27,9 +27,11 @@ reducedTo k room budget r = record {
   buf = padded room (encodeTerm k (r .state));
 }
 
+-- The rows of the call, in the order of 01's table.
 abbrev pub reducerRows : List ℕ → ℕ → List Row
 reducerRows buf used = row 1 (badBuffer buf used) ∷ termRows buf used (row 7 (openTerm buf used) ∷ [])
 
+-- By the number of the first row that applies, 0 where none does: the run, or a refusal and the buffer as it came.
 unfoldable pub reducerBy : ℕ → List ℕ → ℕ → ℕ → ReducerCall
 reducerBy zero buf used budget =
     reducedTo (kOf buf used) (length buf) budget (reductions (kOf buf used) (length buf) budget (theTermOf buf used))

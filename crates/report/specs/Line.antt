@@ -18,6 +18,7 @@ use Rattle.print.specs.Words.{ranLine, refusedLine}
 abbrev pub saidLength : List ℕ → ℕ
 saidLength input = val (take 2 input)
 
+-- The record: so many of the input's first bytes.
 abbrev pub recordOf : List ℕ → List ℕ
 recordOf input = take (saidLength input) input
 
@@ -26,17 +27,21 @@ unfoldable pub valuesIn : ℕ → List ℕ → List ℕ
 valuesIn zero bytes = []
 valuesIn (suc n) bytes = val (take 4 bytes) ∷ valuesIn n (drop 4 bytes)
 
+-- The k that the record's header gives.
 abbrev pub kOfInput : List ℕ → ℕ
 kOfInput input = kOf (recordOf input) (saidLength input)
 
+-- The store: the k values behind the record.
 abbrev pub storeOf : List ℕ → List ℕ
 storeOf input = valuesIn (kOfInput input) (drop (saidLength input) input)
 
 -- THE RUNS: each engine has a buffer of 16,384 bytes and a budget of 1,000,000
 
+-- The length of each engine's buffer.
 unfoldable pub programBuffer : ℕ
 programBuffer = 16384
 
+-- The budget of each engine's run.
 unfoldable pub programBudget : ℕ
 programBudget = 1000000
 
@@ -44,15 +49,19 @@ programBudget = 1000000
 abbrev pub termOfInput : List ℕ → Wrote
 termOfInput input = translateCall (recordOf input) (saidLength input) (replicate programBuffer 0)
 
+-- The stepper's run of the record and the store.
 unfoldable pub stepperRun : List ℕ → StepperCall
 stepperRun input = runStepper (padded programBuffer (recordOf input)) (saidLength input) (storeOf input) programBudget
 
+-- The reducer's run of what substitute wrote.
 unfoldable pub reducerFrom : Wrote → ReducerCall
 reducerFrom s = runReducer (s .written) (s .used) programBudget
 
+-- What substitute answers, of what translate wrote and of the store.
 unfoldable pub substitutedFrom : List ℕ → Wrote → Wrote
 substitutedFrom input t = substituteCall (t .written) (t .used) (storeOf input)
 
+-- The reducer's run, of the program's term with the store substituted.
 unfoldable pub reducerRun : List ℕ → ReducerCall
 reducerRun input = reducerFrom (substitutedFrom input (termOfInput input))
 
@@ -67,6 +76,7 @@ inputRows input more =
     ∷ row 2 (ltb (length input) (saidLength input))
     ∷ programRows (recordOf input) (saidLength input) (row 6 (not (eqb (length input - saidLength input) (4 * kOfInput input))) ∷ more)
 
+-- All of them; the last is row 10.
 abbrev pub lineRows : List ℕ → List Row
 lineRows input = inputRows input (row 10 (tooShort (replicate programBuffer 0) (translated (recordOf input) (saidLength input))) ∷ [])
 
@@ -76,9 +86,11 @@ lineRows input = inputRows input (row 10 (tooShort (replicate programBuffer 0) (
 abbrev pub runsLine : StepperCall → ReducerCall → List ℕ
 runsLine s r = ranLine (s .answer) (r .answer) (s .store)
 
+-- By the number of the first that applies, 0 where none does: the line of the two runs, or the refusal's.
 unfoldable pub lineBy : ℕ → List ℕ → List ℕ
 lineBy zero input = runsLine (stepperRun input) (reducerRun input)
 lineBy (suc n) input = refusedLine (suc n)
 
+-- The line that is printed for the entire input.
 unfoldable pub line : List ℕ → List ℕ
 line input = lineBy (firstRow (lineRows input)) input

@@ -33,9 +33,11 @@ steppedTo k room budget r = record {
   store = r .state .store;
 }
 
+-- The rows of the call, in the order of 01's table.
 abbrev pub stepperRows : List ℕ → ℕ → List ℕ → List Row
 stepperRows buf used store = row 1 (badBuffer buf used) ∷ programRows buf used (row 6 (badStore buf used store) ∷ [])
 
+-- By the number of the first row that applies, 0 where none does: the run, or a refusal and buffer and store as they came.
 unfoldable pub stepperBy : ℕ → List ℕ → ℕ → List ℕ → ℕ → StepperCall
 stepperBy zero buf used store budget =
     steppedTo (kOf buf used) (length buf) budget (steps (kOf buf used) (length buf) budget (configOf buf used store))

@@ -4,5 +4,6 @@ use mathlib.Core.List.{List}
 use Rattle.record.specs.Answers.{Wrote}
 use Rattle.term.specs.declared.Written.{Written}
 
+-- The number and the used length of the code's answer, and the buffer afterwards.
 abbrev pub asWrote : Written → List ℕ → Wrote
 asWrote r after = record { number = r .number; used = r .used; written = after }

@@ -16,6 +16,7 @@ use Rattle.rules.specs.Syntax.{Atom, Block, Term, num, tuple}
 use Rattle.rules.specs.Translation.{translate}
 use Rattle.term.specs.Calls.{noSource, readBackCall, resultCall, substituteCall, tooShort, translateCall}
 
+-- What rows 9 and 10 say, and what each call answers where rows 1 to 5 do not apply.
 pub record CallsMean : Type 0 where
   -- ROW 9: no program translates to the term that the record holds
   pub nine : (src : List ℕ) (used : ℕ) (t : Term) → termOf src used ≡ some t

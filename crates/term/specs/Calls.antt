@@ -24,9 +24,11 @@ tooShort out answer = ltb (length out) (length answer)
 abbrev pub translated : List ℕ → ℕ → List ℕ
 translated src used = encodeTerm (kOf src used) (translate (kOf src used) (programOf src used))
 
+-- The rows of the call, in the order of 01's table.
 abbrev pub translateRows : List ℕ → ℕ → List ℕ → List Row
 translateRows src used out = row 1 (badBuffer src used || tooLong out) ∷ programRows src used (row 10 (tooShort out (translated src used)) ∷ [])
 
+-- THE CALL: source, used length, output buffer.
 unfoldable pub translateCall : List ℕ → ℕ → List ℕ → Wrote
 translateCall src used out = wroteBy (firstRow (translateRows src used out)) (translated src used) out
 
@@ -40,24 +42,30 @@ sourceOf src used = readBack (kOf src used) (theTermOf src used)
 unfoldable pub noSource : List ℕ → ℕ → Bool
 noSource src used = isNone (sourceOf src used)
 
+-- The record that answers where row 9 does not apply: that program's.
 abbrev pub sourceBytes : List ℕ → ℕ → List ℕ
 sourceBytes src used = encodeProgram (kOf src used) (orElse empty (sourceOf src used))
 
+-- The rows of the call, in the order of 01's table.
 abbrev pub readBackRows : List ℕ → ℕ → List ℕ → List Row
 readBackRows src used out =
     row 1 (badBuffer src used || tooLong out) ∷ termRows src used (row 9 (noSource src used) ∷ row 10 (tooShort out (sourceBytes src used)) ∷ [])
 
+-- THE CALL: source, used length, output buffer.
 unfoldable pub readBackCall : List ℕ → ℕ → List ℕ → Wrote
 readBackCall src used out = wroteBy (firstRow (readBackRows src used out)) (sourceBytes src used) out
 
 -- SUBSTITUTE (01's filling): rows 1 to 6, in place
 
+-- The record that answers: the term's, its free variables replaced by the store's numerals.
 abbrev pub substituted : List ℕ → ℕ → List ℕ → List ℕ
 substituted buf used store = encodeTerm (kOf buf used) (substitute (fromStore store) (theTermOf buf used))
 
+-- The rows of the call, in the order of 01's table.
 abbrev pub substituteRows : List ℕ → ℕ → List ℕ → List Row
 substituteRows buf used store = row 1 (badBuffer buf used) ∷ termRows buf used (row 6 (badStore buf used store) ∷ [])
 
+-- THE CALL: buffer, used length, store.
 unfoldable pub substituteCall : List ℕ → ℕ → List ℕ → Wrote
 substituteCall buf used store = wroteBy (firstRow (substituteRows buf used store)) (substituted buf used store) buf
 
@@ -70,9 +78,11 @@ numerals (letOne x s t) = []
 numerals (letAll t u) = []
 numerals (rec x a l t) = []
 
+-- The rows of the call, in the order of 01's table.
 abbrev pub resultRows : List ℕ → ℕ → List ℕ → List Row
 resultRows buf used store =
     row 1 (badBuffer buf used) ∷ termRows buf used (row 6 (badStore buf used store) ∷ row 7 (openTerm buf used) ∷ row 8 (unfinished buf used) ∷ [])
 
+-- THE CALL: buffer, used length, store.
 unfoldable pub resultCall : List ℕ → ℕ → List ℕ → Stored
 resultCall buf used store = storedBy (firstRow (resultRows buf used store)) (numerals (theTermOf buf used)) store

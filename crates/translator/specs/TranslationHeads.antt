@@ -13,6 +13,7 @@ use Rattle.translator.specs.RowTranslation.{allBytes}
 abbrev pub u16At : List ℕ → ℕ → ℕ
 u16At l p = val (part l p 2)
 
+-- The number in the 4 bytes at index p.
 abbrev pub u32At : List ℕ → ℕ → ℕ
 u32At l p = val (part l p 4)
 
@@ -31,6 +32,7 @@ unfoldable pub letOneHeadIf : Bool → List ℕ → ℕ → ℕ → List ℕ
 letOneHeadIf true l p n = leadOf 37 n l p
 letOneHeadIf false l p n = recordHead 37 n ++ (le 4 (u32At l (p + 4)) ++ (recordHead (u16At l (p + 10) + 16) 12 ++ leafBytes 33 (u32At l (p + 12))))
 
+-- The same of the assignment at index p, by the kind of its expression.
 unfoldable pub letOneHead : List ℕ → ℕ → ℕ → List ℕ
 letOneHead l p n = letOneHeadIf (ltb (u16At l (p + 10)) 18) l p n
 
@@ -49,5 +51,6 @@ unfoldable pub letAllHeadIf : Bool → ℕ → List ℕ → ℕ → ℕ → ℕ 
 letAllHeadIf true k l p n m = recordHead 38 n ++ (leadOf 39 (20 + 8 * k + m) l p ++ allBytes k)
 letAllHeadIf false k l p n m = recordHead 38 n
 
+-- The same of the command at index p, by its kind: a loop, else a block.
 unfoldable pub letAllHead : ℕ → List ℕ → ℕ → ℕ → ℕ → List ℕ
 letAllHead k l p n m = letAllHeadIf (eqb (u16At l (p + 2)) 3) k l p n m

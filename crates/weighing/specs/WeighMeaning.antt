@@ -9,6 +9,7 @@ use Rattle.rules.specs.Sound.{SmallValues}
 use Rattle.rules.specs.Store.{fitsWord}
 use Rattle.weighing.specs.Weigh.{countOf, netLoad, weighCall}
 
+-- What variable 1 gets, and what the call answers of every gross, tare and store.
 pub record WeighMeans : Type 0 where
   -- the net load: what with tare makes up gross, or 0 where tare is the larger
   pub net : (gross tare : ℕ) → tare ≤ gross → netLoad gross tare + tare ≡ gross
