@@ -7,6 +7,7 @@ use Rattle.record.specs.Reading.{atEnd, sub, then}
 use Rattle.record.specs.Record.{Split, bad, end, part, split}
 use Rattle.record.specs.Term.{decodeAtoms, readSimple}
 
+-- The kind of the record that stands first, where nothing follows it; 0 everywhere else.
 unfoldable pub kindAlone : Split → ℕ
 kindAlone end = 0
 kindAlone bad = 0

@@ -23,6 +23,7 @@ unfoldable pub among : List ℕ → ℕ → Bool
 among [] k = false
 among (x ∷ xs) k = eqb k x || among xs k
 
+-- By which list has the kind: that of programs, of expressions, of terms, or none.
 unfoldable pub classBy : Bool → Bool → Bool → Class
 classBy true e t = Program
 classBy false true t = Expression

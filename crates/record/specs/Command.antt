@@ -21,10 +21,12 @@ abbrev pub oneNest : Option Block → Option Block
 oneNest none = none
 oneNest (some p) = some (nest p empty)
 
+-- The block of one assignment to a variable, if there is an expression.
 abbrev pub oneAssign : ℕ → Option Expr → Option Block
 oneAssign x none = none
 oneAssign x (some e) = some (assign x e empty)
 
+-- The block of one loop over an index variable, if there are a bound and a body.
 abbrev pub oneLoop : ℕ → Option Bound → Option Block → Option Block
 oneLoop x none p = none
 oneLoop x (some b) none = none

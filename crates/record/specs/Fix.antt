@@ -8,5 +8,6 @@ module _ {X B : Type 0} (measure : X → ℕ) (level : (X → Option B) → X �
   fuelled zero x = none
   fuelled (suc n) x = level (fuelled n) x
 
+  -- The decoder itself, with fuel for every level that the measure allows.
   unfoldable pub fixed : X → Option B
   fixed x = fuelled (suc (measure x)) x

@@ -15,6 +15,7 @@ use Rattle.record.specs.Rows.{isNone}
 abbrev pub u16 : List ℕ → ℕ → ℕ
 u16 l at = val (slice.part l at 2)
 
+-- The same of four bytes.
 abbrev pub u32 : List ℕ → ℕ → ℕ
 u32 l at = val (slice.part l at 4)
 
@@ -24,6 +25,7 @@ pub record Front (l : List ℕ) (n : ℕ) : Type 0 where
   pub most : n ≤ length l
   pub stored : u16 l 0 ≡ n
 
+-- The length of the record that was found in front, its first four bytes included; 0 where none was.
 unfoldable pub splitLength : Split → ℕ
 splitLength end = 0
 splitLength bad = 0

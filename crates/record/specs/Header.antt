@@ -12,12 +12,15 @@ use Rattle.record.specs.Term.{decodeTerm, kindOfTerm, lastTerm, termCont
 
 -- THE HEADER: the fields of the first eight bytes. Where the contents start is said here and nowhere else
 
+-- The length that the header gives.
 unfoldable pub lengthField : List ℕ → ℕ
 lengthField r = val (take 2 r)
 
+-- The kind that the header gives.
 unfoldable pub kindField : List ℕ → ℕ
 kindField r = val (take 2 (drop 2 r))
 
+-- The k that the header gives.
 unfoldable pub kField : List ℕ → ℕ
 kField r = val (take 4 (drop 4 r))
 
@@ -25,6 +28,7 @@ kField r = val (take 4 (drop 4 r))
 abbrev pub contentsAt : ℕ
 contentsAt = 8
 
+-- What stands behind the header.
 unfoldable pub contents : List ℕ → List ℕ
 contents r = drop contentsAt r
 
@@ -34,22 +38,28 @@ headed kind k c = encodeRecord kind (le 4 k ++ c)
 
 -- THE CONTENTS: one block, or one term of k, and nothing after it
 
+-- A block as contents: its record, of kind 1.
 unfoldable pub blockBytes : Block → List ℕ
 blockBytes t = encodeRecord 1 (encodeBlock t)
 
+-- A term as contents: its record, of a kind from 36 to 39.
 unfoldable pub termBytes : Term → List ℕ
 termBytes t = encodeRecord (kindOfTerm t) (termContents t)
 
+-- The block that the contents are, if they are one.
 unfoldable pub blockIn : List ℕ → Option Block
 blockIn c = then (sub 1 c) (λ b r. atEnd r (decodeBlock b))
 
+-- The term that the contents are, if they are one with tuples of k atoms.
 unfoldable pub termIn : ℕ → List ℕ → Option Term
 termIn k c = lastTerm k (decodeTerm k) c
 
 -- THE TWO RECORDS
 
+-- The record of a program: k, and the program's block.
 unfoldable pub encodeProgram : ℕ → Block → List ℕ
 encodeProgram k t = headed 7 k (blockBytes t)
 
+-- The record of a term with its header: k, and the term.
 unfoldable pub encodeTerm : ℕ → Term → List ℕ
 encodeTerm k t = headed 40 k (termBytes t)

@@ -12,41 +12,51 @@ use Rattle.record.specs.Record.{Split, bad, encodeRecord, end, part, spl
 
 -- EXPRESSIONS AND BOUNDS: kind, and value or variable number
 
+-- The kind of an expression's record.
 unfoldable pub exprKind : Expr → ℕ
 exprKind (lit v) = 16
 exprKind (var v) = 17
 exprKind (inc v) = 18
 exprKind (dec v) = 19
 
+-- The value or variable number that an expression holds.
 unfoldable pub exprNumber : Expr → ℕ
 exprNumber (lit v) = v
 exprNumber (var v) = v
 exprNumber (inc v) = v
 exprNumber (dec v) = v
 
+-- The kind of a bound's record.
 unfoldable pub boundKind : Bound → ℕ
 boundKind (upto v) = 16
 boundKind (uptoVar v) = 17
 
+-- The value or variable number that a bound holds.
 unfoldable pub boundNumber : Bound → ℕ
 boundNumber (upto v) = v
 boundNumber (uptoVar v) = v
 
+-- The expression of this kind with this value or variable number, if the kind is an expression's.
 unfoldable pub exprFrom : ℕ → ℕ → Option Expr
 exprFrom k v = pick (eqb k 16) (some (lit v)) (pick (eqb k 17) (some (var v)) (pick (eqb k 18) (some (inc v)) (pick (eqb k 19) (some (dec v)) none)))
 
+-- The same of a bound.
 unfoldable pub boundFrom : ℕ → ℕ → Option Bound
 boundFrom k v = pick (eqb k 16) (some (upto v)) (pick (eqb k 17) (some (uptoVar v)) none)
 
+-- The record of an expression.
 abbrev pub encodeExpr : Expr → List ℕ
 encodeExpr = encodeLeaf exprKind exprNumber exprFrom
 
+-- The record of a bound.
 abbrev pub encodeBound : Bound → List ℕ
 encodeBound = encodeLeaf boundKind boundNumber boundFrom
 
+-- The expression whose record stands first, and what follows it.
 abbrev pub readExpr : List ℕ → Got Expr
 readExpr = leaf exprKind exprNumber exprFrom
 
+-- The same of a bound.
 abbrev pub readBound : List ℕ → Got Bound
 readBound = leaf boundKind boundNumber boundFrom
 
@@ -75,12 +85,14 @@ BlockWords (nest p r) = BlockWords p × BlockWords r
 
 -- THE DECODER
 
+-- What a kind is taken for where a command stands: a block, an assignment, a loop, or no command.
 pub data CommandKind : ℕ → Type 0 where
   isBlock : CommandKind 1
   isAssign : CommandKind 2
   isLoop : CommandKind 3
   notCommand : {k : ℕ} → CommandKind k
 
+-- What each kind is taken for.
 unfoldable pub commandKind : (k : ℕ) → CommandKind k
 commandKind zero = notCommand
 commandKind (suc zero) = isBlock
@@ -89,6 +101,7 @@ commandKind (suc (suc (suc zero))) = isLoop
 commandKind (suc (suc (suc (suc k)))) = notCommand
 
 module _ (D : List ℕ → Option Block) where
+  -- By what the kind was taken for: the command with these contents, and then the rest of its block.
   unfoldable pub decodeCommand : {k : ℕ} → CommandKind k → List ℕ → List ℕ → Option Block
   decodeCommand isBlock b r = bind (D b) (λ p. bind (D r) (λ q. some (nest p q)))
   decodeCommand isAssign b r = then (word b) (λ x b₁. then (readExpr b₁) (λ e b₂. atEnd b₂ (bind (D r) (λ q. some (assign x e q)))))
@@ -96,11 +109,13 @@ module _ (D : List ℕ → Option Block) where
       then (word b) (λ x b₁. then (readBound b₁) (λ n b₂. then (sub 1 b₂) (λ c b₃. atEnd b₃ (bind (D c) (λ p. bind (D r) (λ q. some (loop x n p q)))))))
   decodeCommand notCommand b r = none
 
+  -- By what stands first: the empty block where nothing does, no block where no record does, or else the first command.
   unfoldable pub decodeBlockPart : Split → Option Block
   decodeBlockPart end = some empty
   decodeBlockPart bad = none
   decodeBlockPart (part k b r) = decodeCommand (commandKind k) b r
 
+  -- One level of the decoder: D is the decoder for shorter lists.
   unfoldable pub decodeBlockStep : List ℕ → Option Block
   decodeBlockStep bs = decodeBlockPart (split bs)
 

@@ -16,6 +16,7 @@ pub data Split : Type 0 where
   bad : Split
   part : ℕ → List ℕ → List ℕ → Split
 
+-- The record of kind k whose contents are the next n bytes, and what follows it; no record where the test fails.
 unfoldable pub cut : Bool → ℕ → ℕ → List ℕ → Split
 cut true k n xs = part k (take n xs) (drop n xs)
 cut false k n xs = bad

@@ -15,6 +15,8 @@ use Rattle.record.specs.Program.{BlockWords}
 use Rattle.record.specs.Rows.{badBlock, badBuffer, badHeader, badK, badStore, badTerm, blockOf, blockOutside, kOf, openTerm, termOf, termOutside, unfinished}
 use Rattle.record.specs.Term.{TermWords}
 
+-- The test of each row from 1 to 8 says that the row applies exactly where the plain fact beside it holds: row 4's for bytes
+-- in a buffer of at most 16,384, and those of rows 5, 7 and 8 where the record holds a block or a term.
 pub record RowsMean : Type 0 where
   -- 1: a buffer above 16,384 bytes, or used length above its buffer
   pub one : (buf : List ℕ) (used : ℕ) → (badBuffer buf used ≡ true) ↔ ((16384 < length buf) ⊎ (length buf < used))

@@ -19,9 +19,11 @@ pub record Row : Type 0 where
   pub number : ℕ
   pub applies : Bool
 
+-- A row from its number and whether it applies.
 abbrev pub row : ℕ → Bool → Row
 row n b = record { number = n; applies = b }
 
+-- The number of a row where it applies, and else that of the rows after it.
 unfoldable pub pickRow : Bool → ℕ → ℕ → ℕ
 pickRow true n later = n
 pickRow false n later = later
@@ -43,6 +45,7 @@ First (r ∷ rs) n = ((r .applies ≡ true) × (n ≡ r .number)) ⊎ ((r .appli
 
 -- WHAT IS LENT: the record is the first `used` bytes of the buffer
 
+-- The bytes of the record that is lent.
 abbrev pub recordIn : List ℕ → ℕ → List ℕ
 recordIn buf used = take used buf
 
@@ -54,34 +57,42 @@ kOf buf used = kField (recordIn buf used)
 abbrev pub blockOf : List ℕ → ℕ → Option Block
 blockOf buf used = blockIn (contents (recordIn buf used))
 
+-- The same of a term, whose tuples have as many atoms as the header's k.
 abbrev pub termOf : List ℕ → ℕ → Option Term
 termOf buf used = termIn (kOf buf used) (contents (recordIn buf used))
 
+-- There is nothing.
 unfoldable pub isNone : {A : Type 0} → Option A → Bool
 isNone none = true
 isNone (some a) = false
 
+-- There is something, and the test holds of it.
 unfoldable pub holds : {A : Type 0} → (A → Bool) → Option A → Bool
 holds p none = false
 holds p (some a) = p a
 
+-- What there is; where there is nothing, the thing given in its place.
 unfoldable pub orElse : {A : Type 0} → A → Option A → A
 orElse a none = a
 orElse a (some b) = b
 
 -- The same where row 4 does not apply.
+-- It is the block that the record holds; where that is none, the empty block stands in.
 abbrev pub programOf : List ℕ → ℕ → Block
 programOf buf used = orElse empty (blockOf buf used)
 
+-- The same of the term; where that is none, the tuple of no atoms stands in.
 abbrev pub theTermOf : List ℕ → ℕ → Term
 theTermOf buf used = orElse (tuple []) (termOf buf used)
 
 -- THE ROWS
 
 -- 1: a buffer above 16,384 bytes, or used length above its buffer
+-- This is the first half alone, all that is asked of a buffer that only takes output.
 unfoldable pub tooLong : List ℕ → Bool
 tooLong buf = ltb 16384 (length buf)
 
+-- Both halves, of a buffer that is lent with a used length.
 unfoldable pub badBuffer : List ℕ → ℕ → Bool
 badBuffer buf used = tooLong buf || ltb (length buf) used
 
@@ -97,6 +108,7 @@ badK buf used = not (inRange 16 (kOf buf used))
 unfoldable pub badBlock : List ℕ → ℕ → Bool
 badBlock buf used = isNone (blockOf buf used)
 
+-- The same of a term.
 unfoldable pub badTerm : List ℕ → ℕ → Bool
 badTerm buf used = isNone (termOf buf used)
 
@@ -104,6 +116,7 @@ badTerm buf used = isNone (termOf buf used)
 unfoldable pub blockOutside : List ℕ → ℕ → Bool
 blockOutside buf used = holds (λ t. not (blockInRange (kOf buf used) t)) (blockOf buf used)
 
+-- The same of a term.
 unfoldable pub termOutside : List ℕ → ℕ → Bool
 termOutside buf used = holds (λ t. not (termInRange (kOf buf used) t)) (termOf buf used)
 
@@ -116,12 +129,14 @@ unfoldable pub openTerm : List ℕ → ℕ → Bool
 openTerm buf used = holds (λ t. not (closed t)) (termOf buf used)
 
 -- 8: not finished
+-- A term is finished where it is a tuple (01 "Reducer").
 unfoldable pub finishedTerm : Term → Bool
 finishedTerm (tuple l) = true
 finishedTerm (letOne x s t) = false
 finishedTerm (letAll t u) = false
 finishedTerm (rec x a l t) = false
 
+-- The term that the record holds is not finished.
 unfoldable pub unfinished : List ℕ → ℕ → Bool
 unfinished buf used = holds (λ t. not (finishedTerm t)) (termOf buf used)
 
@@ -129,5 +144,6 @@ unfinished buf used = holds (λ t. not (finishedTerm t)) (termOf buf used)
 abbrev pub programRows : List ℕ → ℕ → List Row → List Row
 programRows buf used more = row 2 (badHeader 7 buf used) ∷ row 3 (badK buf used) ∷ row 4 (badBlock buf used) ∷ row 5 (blockOutside buf used) ∷ more
 
+-- The rows of a term.
 abbrev pub termRows : List ℕ → ℕ → List Row → List Row
 termRows buf used more = row 2 (badHeader 40 buf used) ∷ row 3 (badK buf used) ∷ row 4 (badTerm buf used) ∷ row 5 (termOutside buf used) ∷ more
