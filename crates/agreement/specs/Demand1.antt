@@ -4,7 +4,6 @@ use Prim.Native.Nat.{ℕ, _≤_}
 use mathlib.Core.Path.{_≡_}
 use mathlib.Core.Logic.{_↔_}
 use mathlib.Core.List.{List}
-use mathlib.Core.Option.{none}
 use Rattle.record.specs.Answers.{checkProgram, checkProgramRows, checkTerm, checkTermRows}
 use Rattle.record.specs.Rows.{First, NoRow, Row, firstRow}
 use Rattle.reducer.specs.RunReducer.{reducerRows, runReducer}
@@ -12,7 +11,6 @@ use Rattle.run.specs.RunAnswer.{refusal}
 use Rattle.stepper.specs.RunStepper.{runStepper, stepperRows}
 use Rattle.term.specs.Calls.{readBackCall, readBackRows, resultCall, resultRows, substituteCall, substituteRows, translateCall, translateRows}
 use Rattle.weighing.specs.Weigh.{weighCall, weighRows}
-use Rattle.agreement.specs.Loads.{budget}
 
 -- n is at most 10; it is 0 exactly where no row of the call applies, and else the number of the first that does.
 pub record Numbers (rows : List Row) (n : ℕ) : Type 0 where

@@ -21,11 +21,10 @@ use Rattle.rules.specs.Step.{step}
 use Rattle.rules.specs.Store.{fitsWord, noLimit}
 use Rattle.rules.specs.Syntax.{Atom, Block, Config, Term, empty, finished, next, over, tuple}
 use Rattle.rules.specs.Translation.{translate}
-use Rattle.stepper.specs.RunStepper.{runStepper, steps}
+use Rattle.stepper.specs.RunStepper.{runStepper}
 use Rattle.stepper.specs.StepperRan.{StepperRan}
 use Rattle.term.specs.CallMeaning.{CallsMean}
 use Rattle.weighing.specs.WeighMeaning.{WeighMeans}
-use Rattle.agreement.specs.Loads.{budget}
 
 -- The demand, in four parts: the rules, the rows and the other calls, the checks, the runs.
 pub record Demand2 : Type 0 where

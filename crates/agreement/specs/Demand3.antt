@@ -20,7 +20,6 @@ use Rattle.rules.specs.Syntax.{Atom, Block, Term, empty, num, over, tuple}
 use Rattle.rules.specs.Translation.{translate}
 use Rattle.stepper.specs.RunStepper.{runStepper}
 use Rattle.term.specs.Calls.{substituteCall, substituted, translateCall}
-use Rattle.agreement.specs.Loads.{budget}
 use Rattle.agreement.specs.Orders.{AllAllowed, Order, World, play}
 
 -- THE START: k, the program P, the store μ; the buffers that they are accepted in, and the two engines' buffers.

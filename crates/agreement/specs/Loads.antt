@@ -96,7 +96,7 @@ substitutedOf l t = substituteCall (t .written) (t .used) (l .store)
 unfoldable pub endingOfStepper : StepperCall → Ending
 endingOfStepper r = record { outcome = r .answer .outcome; steps = r .answer .steps; values = r .store }
 
--- the numerals that result copies, where it accepts
+-- The numerals that result copies, where it accepts.
 unfoldable pub acceptedValues : Stored → List ℕ
 acceptedValues s = shownBy (cond (eqb (s .number) 0) isFinished refused) (s .store)
 

@@ -6,7 +6,6 @@ use lib.ListN.{length}
 use Rattle.reducer.specs.RunReducer.{ReducerCall, runReducer}
 use Rattle.rules.specs.Play.{Each, plays}
 use Rattle.stepper.specs.RunStepper.{StepperCall, runStepper}
-use Rattle.agreement.specs.Loads.{budget}
 
 -- The store that an order to the stepper is lent: the one that the last order left, or other values.
 pub data Lent : Type 0 where

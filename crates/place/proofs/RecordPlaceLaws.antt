@@ -6,12 +6,12 @@ use lib.ListN.{drop, length, length-append, take-append-drop}
 use native.Mathlib.Omega.{arith}
 use Rattle.buffer.specs.LittleEndian.{le}
 use Rattle.rules.specs.Syntax.{Block, Term}
-use Rattle.record.specs.Header.{blockBytes, encodeProgram, encodeTerm, headed, termBytes}
+use Rattle.record.specs.Header.{blockBytes, encodeProgram, encodeTerm, headed}
 use Rattle.record.specs.Holding.{ProgramIn}
 use Rattle.record.specs.Program.{blockSize, encodeBlock}
 use Rattle.record.specs.Term.{encodeTermRecord, termSize}
 use Rattle.buffer.proofs.LittleEndianLaws.{length-le}
-use Rattle.record.proofs.HeaderLaws.{length-blockBytes, length-encodeProgram, length-termBytes}
+use Rattle.record.proofs.HeaderLaws.{length-blockBytes, length-encodeProgram, length-encodeTermRecord}
 use Rattle.record.proofs.HoldingLaws.{program-size, program-words}
 use Rattle.record.proofs.ProgramLaws.{length-encodeBlock}
 use Rattle.place.specs.At.{At}
@@ -36,8 +36,8 @@ unfolding encodeProgram
 encodeProgram-head k P = rw (← blockBytes-head P) (headed-head 7 k (12 + blockSize P) (blockBytes P) (omega (arith, length-blockBytes P)))
 
 pub encodeTerm-head : (k : ℕ) (t : Term) → encodeTerm k t ≡ recordHead 40 (12 + termSize t) ++ (le 4 k ++ encodeTermRecord t)
-unfolding encodeTerm termBytes encodeTermRecord
-encodeTerm-head k t = headed-head 40 k (12 + termSize t) (termBytes t) (omega (arith, length-termBytes t))
+unfolding encodeTerm encodeTermRecord
+encodeTerm-head k t = headed-head 40 k (12 + termSize t) (encodeTermRecord t) (omega (arith, length-encodeTermRecord t))
 
 -- A PROGRAM IN A BUFFER
 

@@ -104,10 +104,6 @@ kindOfTerm-range (letOne x s t) = omega arith
 kindOfTerm-range (letAll s t) = omega arith
 kindOfTerm-range (rec x a ys t) = omega arith
 
-pub length-encodeTermRecord : (t : Term) → length (encodeTermRecord t) ≡ 4 + termSize t
-unfolding encodeTermRecord
-length-encodeTermRecord t = simp (length-encodeRecord, length-termContents)
-
 -- every term's record begins with its length and its kind
 pub encodeTermRecord-head : (t : Term) → encodeTermRecord t ≡ recordHead (kindOfTerm t) (4 + termSize t) ++ termContents t
 unfolding encodeTermRecord

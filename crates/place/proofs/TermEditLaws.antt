@@ -12,13 +12,14 @@ use Rattle.record.specs.Term.{atomFrom, atomKind, atomNumber, encodeAtom, encod
 use Rattle.buffer.proofs.LittleEndianLaws.{length-le}
 use Rattle.buffer.proofs.SliceLaws.{part-re, put-re}
 use Rattle.record.proofs.TermLaws.{length-encodeSimple}
+use Rattle.record.proofs.HeaderLaws.{length-encodeTermRecord}
 use Rattle.place.specs.Edit.{Cut, lead, leafBytes, unrolled}
 use Rattle.place.specs.Heads.{recordHead}
 use Rattle.place.proofs.AtLaws.{split-take, take-split}
 use Rattle.place.proofs.EditLaws.{cut-re, length-lead, length-leafBytes}
 use Rattle.place.proofs.HeadsLaws.{length-recordHead, put-length}
 use Rattle.place.proofs.ProgramBytesLaws.{encodeLeaf-head}
-use Rattle.place.proofs.TermBytesLaws.{encodeSimple-plain, encodeTermRecord-letAll, encodeTermRecord-letOne, encodeTermRecord-rec, length-encodeAtom, length-encodeTermRecord, termSize-letOne, termSize-rec, termSize-tuple}
+use Rattle.place.proofs.TermBytesLaws.{encodeSimple-plain, encodeTermRecord-letAll, encodeTermRecord-letOne, encodeTermRecord-rec, length-encodeAtom, termSize-letOne, termSize-rec, termSize-tuple}
 use Rattle.place.proofs.UnrolledLaws.{unrolled-take}
 
 -- THE PIECES

@@ -15,12 +15,13 @@ use Rattle.rules.specs.Syntax.{Answer, Atom, Term, finished, letAll, letOne, ne
 use Rattle.record.specs.Term.{TermWords, encodeTermRecord, kindOfTerm, termSize}
 use Rattle.rules.proofs.FinishedLaws.{reduce-finished}
 use Rattle.rules.proofs.Tests.{and-both, true-false}
+use Rattle.record.proofs.HeaderLaws.{length-encodeTermRecord}
 use Rattle.place.specs.Heads.{recordHead}
 use Rattle.place.specs.Nesting.{Nests, around, plug}
 use Rattle.place.specs.TermPath.{Redex, TermWalk, entersAt, redex, redexLetAll, redexLetOne, redexRec, termPath, terms}
 use Rattle.place.specs.TermView.{TermAt}
 use Rattle.place.proofs.NestingLaws.{plug-at, plug-keeps, plug-nil, plug-snoc, size-plug}
-use Rattle.place.proofs.TermBytesLaws.{encodeTermRecord-letAll, length-encodeTermRecord}
+use Rattle.place.proofs.TermBytesLaws.{encodeTermRecord-letAll}
 use Rattle.place.proofs.TermViewLaws.{as-letAll, letAll-view, term-index, term-room, term-same}
 
 -- BYTES AND SIZES

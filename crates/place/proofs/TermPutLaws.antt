@@ -10,11 +10,12 @@ use Rattle.rules.specs.Syntax.{Simple, Term, letAll, letOne}
 use Rattle.record.specs.Term.{encodeSimple, encodeTermRecord, simpleSize, termSize}
 use Rattle.buffer.proofs.LittleEndianLaws.{length-le}
 use Rattle.record.proofs.TermLaws.{length-encodeSimple}
+use Rattle.record.proofs.HeaderLaws.{length-encodeTermRecord}
 use Rattle.place.specs.At.{At}
 use Rattle.place.specs.Heads.{recordHead}
 use Rattle.place.proofs.AtLaws.{put-part}
 use Rattle.place.proofs.HeadsLaws.{length-recordHead}
-use Rattle.place.proofs.TermBytesLaws.{encodeTermRecord-letAll, encodeTermRecord-letOne, length-encodeTermRecord}
+use Rattle.place.proofs.TermBytesLaws.{encodeTermRecord-letAll, encodeTermRecord-letOne}
 
 pub put-letAll-last : {l : List ℕ} {p : ℕ} (s t t′ : Term) (q : ℕ) → At l p (encodeTermRecord (letAll s t)) → q ≡ p + (8 + termSize s) → termSize t ≡ termSize t′
     → put l q (encodeTermRecord t′) ≡ put l p (encodeTermRecord (letAll s t′))

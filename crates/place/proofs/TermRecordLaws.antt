@@ -14,10 +14,9 @@ use Rattle.record.specs.Holding.{TermIn}
 use Rattle.record.specs.Term.{encodeTermRecord, termSize}
 use Rattle.record.proofs.ContentsLaws.{encodeTerm-parts, length-termHeader, termHeader}
 use Rattle.record.proofs.PaddedLaws.{padded-zeros}
-use Rattle.record.proofs.HeaderLaws.{length-encodeTerm}
+use Rattle.record.proofs.HeaderLaws.{length-encodeTerm, length-encodeTermRecord}
 use Rattle.record.proofs.HoldingLaws.{term-size, term-words}
 use Rattle.place.specs.TermView.{TermAt}
-use Rattle.place.proofs.TermBytesLaws.{length-encodeTermRecord}
 
 module _ {S : Vars} {k : ℕ} {t : Term} {buf : List ℕ} {used : ℕ} (h : TermIn S k t buf used) where
   -- the header, the term, and what the buffer has behind the record

@@ -15,6 +15,7 @@ use Rattle.buffer.proofs.LittleEndianLaws.{length-le}
 use Rattle.buffer.proofs.SliceLaws.{put-nil, put-put}
 use Rattle.record.proofs.TermLaws.{length-encodeAtoms}
 use Rattle.record.proofs.WordsLaws.{termSize-substitute}
+use Rattle.record.proofs.HeaderLaws.{length-encodeTermRecord}
 use Rattle.place.specs.At.{At}
 use Rattle.place.specs.Heads.{recordHead}
 use Rattle.place.specs.TermView.{AtomAt, AtomsAt, LetAllView, LetOneView, RecView, TermAt, TupleView}
@@ -22,7 +23,7 @@ use Rattle.place.proofs.AtLaws.{at-room, put-at, put-part}
 use Rattle.place.proofs.HeadsLaws.{length-recordHead}
 use Rattle.place.proofs.ProgramBytesLaws.{encodeLeaf-head}
 use Rattle.place.proofs.TermViewLaws.{atoms-first, term-index}
-use Rattle.place.proofs.TermBytesLaws.{encodeAtoms-cons, encodeSimple-plain, encodeSimple-pred, encodeSimple-succ, encodeTermRecord-letAll, encodeTermRecord-letOne, encodeTermRecord-rec, encodeTermRecord-tuple, length-encodeAtom, length-encodeTermRecord}
+use Rattle.place.proofs.TermBytesLaws.{encodeAtoms-cons, encodeSimple-plain, encodeSimple-pred, encodeSimple-succ, encodeTermRecord-letAll, encodeTermRecord-letOne, encodeTermRecord-rec, encodeTermRecord-tuple, length-encodeAtom}
 
 -- STORES IN GENERAL
 

@@ -13,13 +13,14 @@ use Rattle.rules.specs.Syntax.{Atom, Simple, Term, letAll, letOne, num, plain, 
 use Rattle.record.specs.Term.{AtomWords, atomFrom, atomKind, atomNumber, encodeAtom, encodeAtoms, encodeSimple, encodeTermRecord, kindOfTerm, simpleSize, termContents, termSize}
 use Rattle.buffer.proofs.LittleEndianLaws.{length-le}
 use Rattle.record.proofs.TermLaws.{length-encodeAtoms, length-encodeSimple}
+use Rattle.record.proofs.HeaderLaws.{length-encodeTermRecord}
 use Rattle.place.specs.At.{At}
 use Rattle.place.specs.Heads.{recordHead}
 use Rattle.place.specs.TermView.{AtomAt, AtomView, AtomsAt, LetAllView, LetAtomView, LetOfView, LetOneView, RecView, TermAt, TermView, TermsAt, TupleView, encodeTerms, isLetAllAt, isLetOneAt, isRecAt, isTupleAt, simpleKind, termsSize}
 use Rattle.place.proofs.AtLaws.{at-index, at-part, at-room, at-same, word-read}
 use Rattle.place.proofs.HeadsLaws.{kind-at, leaf-read, length-at, length-recordHead}
 use Rattle.place.proofs.ProgramBytesLaws.{encodeLeaf-head}
-use Rattle.place.proofs.TermBytesLaws.{atomKind-range, encodeAtoms-cons, encodeSimple-plain, encodeSimple-pred, encodeSimple-succ, encodeTermRecord-head, encodeTermRecord-letAll, encodeTermRecord-letOne, encodeTermRecord-rec, encodeTermRecord-tuple, kind-num, kind-plain, kind-pred, kind-ref, kind-succ, kindOfTerm-range, length-encodeAtom, length-encodeTermRecord, simple-high, simple-low, simpleKind-range, termSize-letAll, termSize-letOne, termSize-rec, termSize-tuple}
+use Rattle.place.proofs.TermBytesLaws.{atomKind-range, encodeAtoms-cons, encodeSimple-plain, encodeSimple-pred, encodeSimple-succ, encodeTermRecord-head, encodeTermRecord-letAll, encodeTermRecord-letOne, encodeTermRecord-rec, encodeTermRecord-tuple, kind-num, kind-plain, kind-pred, kind-ref, kind-succ, kindOfTerm-range, length-encodeAtom, simple-high, simple-low, simpleKind-range, termSize-letAll, termSize-letOne, termSize-rec, termSize-tuple}
 
 -- ATOMS
 

@@ -8,7 +8,7 @@ use native.Mathlib.Omega.{arith}
 use Rattle.buffer.specs.LittleEndian.{le, val}
 use Rattle.buffer.specs.Slice.{part, put}
 use Rattle.rules.specs.Syntax.{Block, Term, empty, nest}
-use Rattle.record.specs.Header.{blockBytes, contentsAt, encodeProgram, encodeTerm, headed, termBytes}
+use Rattle.record.specs.Header.{blockBytes, contentsAt, encodeProgram, encodeTerm, headed}
 use Rattle.record.specs.Holding.{ProgramIn, TermIn}
 use Rattle.record.specs.Program.{blockSize, encodeBlock}
 use Rattle.record.specs.Record.{encodeRecord}
@@ -143,7 +143,7 @@ module _ {k : ℕ} {P : Block} {buf : List ℕ} {used : ℕ} (h : ProgramIn k P 
 -- TERMS
 
 encodeTerm-headed : (k : ℕ) (t : Term) → encodeTerm k t ≡ headed 40 k (encodeTermRecord t)
-unfolding encodeTerm termBytes encodeTermRecord
+unfolding encodeTerm encodeTermRecord
 encodeTerm-headed k t = refl
 
 pub length-termFront : (k : ℕ) (p : List Term) (n : ℕ) → length (termFront k p n) ≡ contentsAt + 4 * length p

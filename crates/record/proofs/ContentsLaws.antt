@@ -7,10 +7,10 @@ use native.Mathlib.Omega.{arith}
 use Rattle.buffer.specs.LittleEndian.{le}
 use Rattle.rules.specs.Syntax.{Term}
 use Rattle.buffer.proofs.LittleEndianLaws.{length-le}
-use Rattle.record.specs.Header.{encodeTerm, headed, termBytes}
+use Rattle.record.specs.Header.{encodeTerm, headed}
 use Rattle.record.specs.Record.{encodeRecord}
 use Rattle.record.specs.Term.{encodeTermRecord, termSize}
-use Rattle.record.proofs.HeaderLaws.{length-termBytes}
+use Rattle.record.proofs.HeaderLaws.{length-encodeTermRecord}
 
 -- the header of a record with k, by its kind and the length of its contents
 header : ℕ → ℕ → ℕ → List ℕ
@@ -30,11 +30,7 @@ pub length-termHeader : (k n : ℕ) → length (termHeader k n) ≡ 8
 unfolding termHeader header
 length-termHeader k n = simp (length-append, length-le)
 
-termBytes-record : (t : Term) → termBytes t ≡ encodeTermRecord t
-unfolding termBytes encodeTermRecord
-termBytes-record t = refl
-
 pub encodeTerm-parts : (k : ℕ) (t : Term) → encodeTerm k t ≡ termHeader k (termSize t) ++ encodeTermRecord t
 unfolding termHeader encodeTerm
 encodeTerm-parts k t =
-    headed-parts 40 k (termBytes t) (4 + termSize t) (length-termBytes t) ∙ ap (λ (y : List ℕ). header 40 k (4 + termSize t) ++ y) (termBytes-record t)
+    headed-parts 40 k (encodeTermRecord t) (4 + termSize t) (length-encodeTermRecord t)

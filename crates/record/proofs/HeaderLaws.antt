@@ -9,11 +9,11 @@ use native.Mathlib.Omega.{arith}
 use Rattle.buffer.specs.LittleEndian.{Bytes, le, val}
 use Rattle.rules.specs.Syntax.{Block, Term}
 use Rattle.buffer.proofs.LittleEndianLaws.{bytes-drop, bytes-take, le-val, length-le, val-le}
-use Rattle.record.specs.Header.{blockBytes, blockIn, contents, encodeProgram, encodeTerm, headed, kField, kindField, lengthField, termBytes, termIn}
+use Rattle.record.specs.Header.{blockBytes, blockIn, contents, encodeProgram, encodeTerm, headed, kField, kindField, lengthField, termIn}
 use Rattle.record.specs.Program.{BlockWords, blockSize, encodeBlock}
 use Rattle.record.specs.Reading.{atEnd, got, sub, then}
 use Rattle.record.specs.Record.{encodeRecord}
-use Rattle.record.specs.Term.{TermWords, decodeTerm, termSize}
+use Rattle.record.specs.Term.{TermWords, decodeTerm, encodeTermRecord, termSize}
 use Rattle.record.proofs.ProgramLaws.{decodeBlock-encode, decodeBlock-sound, length-encodeBlock, sub-alone}
 use Rattle.record.proofs.ReadingLaws.{atEnd-inv, sub-part, then-inv}
 use Rattle.record.proofs.RecordLaws.{length-encodeRecord, split-parted}
@@ -75,9 +75,9 @@ pub length-blockBytes : (t : Block) → length (blockBytes t) ≡ 4 + blockSize 
 unfolding blockBytes
 length-blockBytes t = simp (length-encodeRecord, length-encodeBlock)
 
-pub length-termBytes : (t : Term) → length (termBytes t) ≡ 4 + termSize t
-unfolding termBytes
-length-termBytes t = simp (length-encodeRecord, length-termContents)
+pub length-encodeTermRecord : (t : Term) → length (encodeTermRecord t) ≡ 4 + termSize t
+unfolding encodeTermRecord
+length-encodeTermRecord t = simp (length-encodeRecord, length-termContents)
 
 pub blockIn-bytes : (t : Block) → BlockWords t → 4 + blockSize t < 65536 → blockIn (blockBytes t) ≡ some t
 unfolding blockIn blockBytes then atEnd
@@ -94,12 +94,12 @@ blockIn-sound c t hb f =
     let d = decodeBlock-sound b t f₂ (u .inside) in
     (u .whole ∙ ap₂ (λ (y z : List ℕ). encodeRecord 1 y ++ z) (d .whole) n ∙ append-nil (encodeRecord 1 (encodeBlock t)), d .fits)
 
-pub termIn-bytes : (k : ℕ) (t : Term) → TermWords k t → 4 + termSize t < 65536 → termIn k (termBytes t) ≡ some t
-unfolding termIn termBytes
+pub termIn-bytes : (k : ℕ) (t : Term) → TermWords k t → 4 + termSize t < 65536 → termIn k (encodeTermRecord t) ≡ some t
+unfolding termIn encodeTermRecord
 termIn-bytes k t h n = last-encode k (decodeTerm k) t (omega arith) (decodeTerm-encode k t h (omega arith))
 
-pub termIn-sound : (k : ℕ) (c : List ℕ) (t : Term) → Bytes c → termIn k c ≡ some t → (c ≡ termBytes t) × TermWords k t
-unfolding termIn termBytes
+pub termIn-sound : (k : ℕ) (c : List ℕ) (t : Term) → Bytes c → termIn k c ≡ some t → (c ≡ encodeTermRecord t) × TermWords k t
+unfolding termIn encodeTermRecord
 termIn-sound k c t hb f = last-decoded k (decodeTerm k) (decodeTerm-sound k) c t hb f
 
 -- THE TWO RECORDS
@@ -110,4 +110,4 @@ length-encodeProgram k t = length-headed 7 k (blockBytes t) ∙ omega (arith, le
 
 pub length-encodeTerm : (k : ℕ) (t : Term) → length (encodeTerm k t) ≡ 12 + termSize t
 unfolding encodeTerm
-length-encodeTerm k t = length-headed 40 k (termBytes t) ∙ omega (arith, length-termBytes t)
+length-encodeTerm k t = length-headed 40 k (encodeTermRecord t) ∙ omega (arith, length-encodeTermRecord t)

@@ -21,14 +21,14 @@ use Rattle.rules.proofs.FreeVariablesLaws.{all-closed}
 use Rattle.rules.proofs.ScopeLaws.{blockInRange-within, within-blockInRange}
 use Rattle.rules.proofs.SoundTermLaws.{sound-inRange}
 use Rattle.record.specs.Answers.{Checked, checkProgram, checkProgramRows, checkTerm, checkTermRows, padded}
-use Rattle.record.specs.Header.{blockBytes, blockIn, contents, encodeProgram, encodeTerm, headed, kField, termBytes, termIn}
+use Rattle.record.specs.Header.{blockBytes, blockIn, contents, encodeProgram, encodeTerm, headed, kField, termIn}
 use Rattle.record.specs.Holding.{ProgramIn, TermIn}
 use Rattle.record.specs.Program.{BlockWords}
 use Rattle.record.specs.Rows.{NoRow, Row, badBlock, badBuffer, badHeader, badStore, badTerm, blockOf, blockOutside, finishedTerm, firstRow, kOf, openTerm, programOf, programRows, row, termOf, termOutside, termRows, theTermOf, unfinished}
-use Rattle.record.specs.Term.{TermWords}
+use Rattle.record.specs.Term.{TermWords, encodeTermRecord}
 use Rattle.record.proofs.AnswerLaws.{checked-accepted, checked-number}
 use Rattle.record.proofs.PaddedLaws.{fits-padded, take-padded}
-use Rattle.record.proofs.HeaderLaws.{blockIn-bytes, blockIn-sound, kField-headed, length-blockBytes, length-termBytes, termIn-bytes, termIn-sound}
+use Rattle.record.proofs.HeaderLaws.{blockIn-bytes, blockIn-sound, kField-headed, length-blockBytes, length-encodeTermRecord, termIn-bytes, termIn-sound}
 use Rattle.record.proofs.HeldLaws.{buffer-good, bytes-contents, good-buffer, good-header, good-k, good-store, header-good, header-whole, held-contents, held-header, held-k, held-size, held-used, k-good}
 use Rattle.record.proofs.RowLaws.{first-none, first-skips, holds-some, is-some, isNone-some, none-first, not-intro, or-intro, orElse-some}
 use Rattle.record.proofs.WordsLaws.{block-words, sound-words, words-small, words-sound}
@@ -120,7 +120,7 @@ module _ {S : Vars} {k : ℕ} {t : Term} {buf : List ℕ} {used : ℕ} (h : Term
   pub term-words : TermWords k t
   term-words = sound-words k S t (word-k k (h .k-high)) (h .sound)
 
-  term-headed : take used buf ≡ headed 40 k (termBytes t)
+  term-headed : take used buf ≡ headed 40 k (encodeTermRecord t)
   unfolding encodeTerm
   term-headed = h .bytes
 
@@ -128,16 +128,16 @@ module _ {S : Vars} {k : ℕ} {t : Term} {buf : List ℕ} {used : ℕ} (h : Term
   term-size = sym (length-take-le used buf (h .within)) ∙ ap length (h .bytes)
 
   pub term-k : kOf buf used ≡ k
-  term-k = held-k 40 k (termBytes t) buf used (h .within) term-headed (word-k k (h .k-high))
+  term-k = held-k 40 k (encodeTermRecord t) buf used (h .within) term-headed (word-k k (h .k-high))
 
   pub term-used : (n : ℕ) → length buf ≤ 16384 → badHeader 40 buf n ≡ false → n ≡ used
-  term-used n l e = held-used 40 k (termBytes t) buf used (h .within) term-headed n l (good-header 40 buf n e)
+  term-used n l e = held-used 40 k (encodeTermRecord t) buf used (h .within) term-headed n l (good-header 40 buf n e)
 
   module _ (l : length buf ≤ 16384) where
     pub term-some : termOf buf used ≡ some t
     term-some =
-        ap₂ termIn term-k (held-contents 40 k (termBytes t) buf used (h .within) term-headed)
-        ∙ termIn-bytes k t term-words (omega (arith, held-size 40 k (termBytes t) buf used (h .within) term-headed, length-termBytes t))
+        ap₂ termIn term-k (held-contents 40 k (encodeTermRecord t) buf used (h .within) term-headed)
+        ∙ termIn-bytes k t term-words (omega (arith, held-size 40 k (encodeTermRecord t) buf used (h .within) term-headed, length-encodeTermRecord t))
 
     pub term-is : theTermOf buf used ≡ t
     term-is = orElse-some (tuple []) (termOf buf used) t term-some
@@ -148,7 +148,7 @@ module _ {S : Vars} {k : ℕ} {t : Term} {buf : List ℕ} {used : ℕ} (h : Term
         let v : termInRange (kOf buf used) t ≡ true = rw term-k (sound-inRange fitsWord k S t (h .sound)) in (
           buffer-good buf used (record { low = l; within = h .within }),
           (
-            header-good 40 buf used (held-header 40 k (termBytes t) buf used (h .within) term-headed (lit< tt) l),
+            header-good 40 buf used (held-header 40 k (encodeTermRecord t) buf used (h .within) term-headed (lit< tt) l),
             (
               k-good buf used (rw term-k (h .k-low)) (rw term-k (h .k-high)),
               (
@@ -290,4 +290,4 @@ checked-holds k P buf used e held words =
 -- the k of a term's record, and the size of a store that row 6 lets through
 pub store-size : (k : ℕ) (t : Term) (buf : List ℕ) (used : ℕ) (store : List ℕ) → k ≤ 16 → take used buf ≡ encodeTerm k t → badStore buf used store ≡ false → length store ≡ k
 unfolding encodeTerm
-store-size k t buf used store hi held e = good-store buf used store e ∙ ap kField held ∙ kField-headed 40 k (termBytes t) (word-k k hi)
+store-size k t buf used store hi held e = good-store buf used store e ∙ ap kField held ∙ kField-headed 40 k (encodeTermRecord t) (word-k k hi)

@@ -15,12 +15,12 @@ use Rattle.rules.specs.Syntax.{Atom, Term, letAll, letOne, rec, tuple}
 use Rattle.rules.proofs.FreeVariablesLaws.{closed-free, free-closed}
 use Rattle.rules.proofs.ScopeLaws.{blockInRange-within, inRange-within, termInRange-within, within-blockInRange, within-inRange, within-termInRange}
 use Rattle.rules.proofs.Tests.{true-false}
-use Rattle.record.specs.Header.{blockBytes, blockIn, contents, kindField, lengthField, termBytes, termIn}
+use Rattle.record.specs.Header.{blockBytes, blockIn, contents, kindField, lengthField, termIn}
 use Rattle.record.specs.Program.{BlockWords}
 use Rattle.record.specs.RowMeaning.{RowsMean}
 use Rattle.record.specs.Rows.{badBlock, badBuffer, badHeader, badK, badStore, badTerm, blockOf, blockOutside, finishedTerm, isNone, kOf, openTerm, termOf, termOutside, tooLong, unfinished}
-use Rattle.record.specs.Term.{TermWords}
-use Rattle.record.proofs.HeaderLaws.{blockIn-bytes, blockIn-sound, length-blockBytes, length-termBytes, termIn-bytes, termIn-sound}
+use Rattle.record.specs.Term.{TermWords, encodeTermRecord}
+use Rattle.record.proofs.HeaderLaws.{blockIn-bytes, blockIn-sound, length-blockBytes, length-encodeTermRecord, termIn-bytes, termIn-sound}
 use Rattle.record.proofs.HeldLaws.{bytes-contents}
 use Rattle.record.proofs.RowLaws.{holds-some}
 
@@ -86,9 +86,9 @@ rows-mean = record {
   four = λ buf used hb l. curry-iff (none-iff {Q = λ P. BlockWords P × (contents (take used buf) ≡ blockBytes P)} (blockOf buf used)
       (λ P e. let s = blockIn-sound (contents (take used buf)) P (bytes-contents used buf hb) e in (s .1, s .0))
       (λ P v. ap blockIn (v .1) ∙ blockIn-bytes P (v .0) (omega (arith, length-blockBytes P, ap length (v .1), short-inside used buf))));
-  fourTerm = λ buf used hb l. curry-iff (none-iff {Q = λ t. TermWords (kOf buf used) t × (contents (take used buf) ≡ termBytes t)} (termOf buf used)
+  fourTerm = λ buf used hb l. curry-iff (none-iff {Q = λ t. TermWords (kOf buf used) t × (contents (take used buf) ≡ encodeTermRecord t)} (termOf buf used)
       (λ t e. let s = termIn-sound (kOf buf used) (contents (take used buf)) t (bytes-contents used buf hb) e in (s .1, s .0))
-      (λ t v. ap (termIn (kOf buf used)) (v .1) ∙ termIn-bytes (kOf buf used) t (v .0) (omega (arith, length-termBytes t, ap length (v .1), short-inside used buf))));
+      (λ t v. ap (termIn (kOf buf used)) (v .1) ∙ termIn-bytes (kOf buf used) t (v .0) (omega (arith, length-encodeTermRecord t, ap length (v .1), short-inside used buf))));
   five = λ buf used P e. rw (holds-some (λ t. not (blockInRange (kOf buf used) t)) (blockOf buf used) P e)
       (not-iff (blockInRange (kOf buf used) P) (blockInRange-within (kOf buf used) P, within-blockInRange (kOf buf used) P));
   fiveTerm = λ buf used t e. rw (holds-some (λ u. not (termInRange (kOf buf used) u)) (termOf buf used) t e)

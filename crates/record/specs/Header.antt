@@ -8,7 +8,7 @@ use Rattle.rules.specs.Syntax.{Block, Term}
 use Rattle.record.specs.Program.{decodeBlock, encodeBlock}
 use Rattle.record.specs.Reading.{atEnd, sub, then}
 use Rattle.record.specs.Record.{encodeRecord}
-use Rattle.record.specs.Term.{decodeTerm, kindOfTerm, lastTerm, termContents}
+use Rattle.record.specs.Term.{decodeTerm, encodeTermRecord, lastTerm}
 
 -- THE HEADER: the fields of the first eight bytes. Where the contents start is said here and nowhere else
 
@@ -42,10 +42,6 @@ headed kind k c = encodeRecord kind (le 4 k ++ c)
 unfoldable pub blockBytes : Block → List ℕ
 blockBytes t = encodeRecord 1 (encodeBlock t)
 
--- A term as contents: its record, of a kind from 36 to 39.
-unfoldable pub termBytes : Term → List ℕ
-termBytes t = encodeRecord (kindOfTerm t) (termContents t)
-
 -- The block that the contents are, if they are one.
 unfoldable pub blockIn : List ℕ → Option Block
 blockIn c = then (sub 1 c) (λ b r. atEnd r (decodeBlock b))
@@ -62,4 +58,4 @@ encodeProgram k t = headed 7 k (blockBytes t)
 
 -- The record of a term with its header: k, and the term.
 unfoldable pub encodeTerm : ℕ → Term → List ℕ
-encodeTerm k t = headed 40 k (termBytes t)
+encodeTerm k t = headed 40 k (encodeTermRecord t)

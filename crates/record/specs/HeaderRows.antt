@@ -13,13 +13,12 @@ headerRows kind buf used more = row 1 (badBuffer buf used) ∷ row 2 (badHeader 
 unfoldable pub headerRow : ℕ → List ℕ → ℕ → ℕ
 headerRow kind buf used = firstRow (headerRows kind buf used [])
 
--- The number of the first of rows 4 and 5 that applies to what the contents hold, by the test of variable numbers.
--- Here by that test's answer alone: row 5 where it fails, and none where it holds.
+-- By the test of variable numbers alone: row 5 where it fails, and none where it holds.
 abbrev pub rangeRow : Bool → ℕ
 rangeRow true = 0
 rangeRow false = 5
 
--- And here by what was read of the contents: row 4 where that is nothing, or else by the test.
+-- The number of the first of rows 4 and 5 that applies: row 4 where nothing could be read of the contents, or else by the test.
 abbrev pub contentsRow : {A : Type 0} → (A → Bool) → Option A → ℕ
 contentsRow inRange none = 4
 contentsRow inRange (some a) = rangeRow (inRange a)

@@ -45,7 +45,7 @@ word (a ∷ b ∷ []) = fail
 word (a ∷ b ∷ c ∷ []) = fail
 word (a ∷ b ∷ c ∷ d ∷ r) = got (val (a ∷ b ∷ c ∷ d ∷ [])) r
 
--- the contents of a record of the kind n
+-- The contents of a record, and what is behind it, by whether it is of the kind asked for.
 unfoldable pub ofKind : Bool → List ℕ → List ℕ → Got (List ℕ)
 ofKind true b r = got b r
 ofKind false b r = fail

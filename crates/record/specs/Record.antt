@@ -6,7 +6,8 @@ use lib.Dec.{leb}
 use lib.ListN.{drop, length, take}
 use Rattle.buffer.specs.LittleEndian.{le, val}
 
--- The record of a kind with its contents. Its length is never cut in the specification.
+-- The record of a kind with its contents, which are never cut: one of 65,536 bytes or more has no room for its length in 2 bytes,
+-- and is longer than any buffer.
 unfoldable pub encodeRecord : ℕ → List ℕ → List ℕ
 encodeRecord k b = le 2 (4 + length b) ++ (le 2 k ++ b)
 

@@ -10,10 +10,10 @@ use Rattle.buffer.specs.LittleEndian.{Bytes}
 use Rattle.rules.specs.FreeVariables.{Free}
 use Rattle.rules.specs.Scope.{BlockWithin, TermWithin, Within}
 use Rattle.rules.specs.Syntax.{Atom, Block, Term, tuple}
-use Rattle.record.specs.Header.{blockBytes, contents, kindField, lengthField, termBytes}
+use Rattle.record.specs.Header.{blockBytes, contents, kindField, lengthField}
 use Rattle.record.specs.Program.{BlockWords}
 use Rattle.record.specs.Rows.{badBlock, badBuffer, badHeader, badK, badStore, badTerm, blockOf, blockOutside, kOf, openTerm, termOf, termOutside, unfinished}
-use Rattle.record.specs.Term.{TermWords}
+use Rattle.record.specs.Term.{TermWords, encodeTermRecord}
 
 -- The test of each row from 1 to 8 says that the row applies exactly where the plain fact beside it holds: row 4's for bytes
 -- in a buffer of at most 16,384, and those of rows 5, 7 and 8 where the record holds a block or a term.
@@ -29,7 +29,7 @@ pub record RowsMean : Type 0 where
   pub four : (buf : List ℕ) (used : ℕ) → Bytes buf → length buf ≤ 16384
       → (badBlock buf used ≡ true) ↔ ((P : Block) → BlockWords P → contents (take used buf) ≡ blockBytes P → ⊥)
   pub fourTerm : (buf : List ℕ) (used : ℕ) → Bytes buf → length buf ≤ 16384
-      → (badTerm buf used ≡ true) ↔ ((t : Term) → TermWords (kOf buf used) t → contents (take used buf) ≡ termBytes t → ⊥)
+      → (badTerm buf used ≡ true) ↔ ((t : Term) → TermWords (kOf buf used) t → contents (take used buf) ≡ encodeTermRecord t → ⊥)
   -- 5: a variable number not 1 to k, in the block, or the term, that the record holds
   pub five : (buf : List ℕ) (used : ℕ) (P : Block) → blockOf buf used ≡ some P → (blockOutside buf used ≡ true) ↔ (BlockWithin (kOf buf used) P → ⊥)
   pub fiveTerm : (buf : List ℕ) (used : ℕ) (t : Term) → termOf buf used ≡ some t → (termOutside buf used ≡ true) ↔ (TermWithin (kOf buf used) t → ⊥)

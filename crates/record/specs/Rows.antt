@@ -76,8 +76,7 @@ unfoldable pub orElse : {A : Type 0} → A → Option A → A
 orElse a none = a
 orElse a (some b) = b
 
--- The same where row 4 does not apply.
--- It is the block that the record holds; where that is none, the empty block stands in.
+-- The block that the record holds; where that is none, the empty block stands in.
 abbrev pub programOf : List ℕ → ℕ → Block
 programOf buf used = orElse empty (blockOf buf used)
 
@@ -87,8 +86,7 @@ theTermOf buf used = orElse (tuple []) (termOf buf used)
 
 -- THE ROWS
 
--- 1: a buffer above 16,384 bytes, or used length above its buffer
--- This is the first half alone, all that is asked of a buffer that only takes output.
+-- 1, its first half: a buffer above 16,384 bytes. It is all that is asked of a buffer that only takes output.
 unfoldable pub tooLong : List ℕ → Bool
 tooLong buf = ltb 16384 (length buf)
 
@@ -128,7 +126,6 @@ badStore buf used store = not (eqb (length store) (kOf buf used))
 unfoldable pub openTerm : List ℕ → ℕ → Bool
 openTerm buf used = holds (λ t. not (closed t)) (termOf buf used)
 
--- 8: not finished
 -- A term is finished where it is a tuple (01 "Reducer").
 unfoldable pub finishedTerm : Term → Bool
 finishedTerm (tuple l) = true
@@ -136,7 +133,7 @@ finishedTerm (letOne x s t) = false
 finishedTerm (letAll t u) = false
 finishedTerm (rec x a l t) = false
 
--- The term that the record holds is not finished.
+-- 8: not finished
 unfoldable pub unfinished : List ℕ → ℕ → Bool
 unfinished buf used = holds (λ t. not (finishedTerm t)) (termOf buf used)
 

@@ -174,7 +174,7 @@ unfoldable pub termKind : (k : ℕ) → TermKind k
 termKind k = termKindIf (same k 36) (same k 37) (same k 38) (same k 39)
 
 module _ (n : ℕ) (D : RecordParts → Option Term) where
-  -- one record that is a term, and nothing after it
+  -- One record that is a term, and nothing after it.
   unfoldable pub lastTerm : List ℕ → Option Term
   lastTerm b = then (anyRecord b) (λ g r. atEnd r (D g))
 
@@ -191,10 +191,10 @@ module _ (n : ℕ) (D : RecordParts → Option Term) where
   unfoldable pub decodeTermStep : RecordParts → Option Term
   decodeTermStep g = decodeTermKind (termKind (g .kind)) (g .body)
 
--- the size that falls
+-- The size that falls from a term to the terms inside it.
 unfoldable pub measureTerm : RecordParts → ℕ
 measureTerm g = length (g .body)
 
--- The term of n variables whose record has this kind and these contents, if there is one.
+-- The term with tuples of n atoms whose record has this kind and these contents, if there is one.
 unfoldable pub decodeTerm : ℕ → RecordParts → Option Term
 decodeTerm n g = fixed measureTerm (decodeTermStep n) g

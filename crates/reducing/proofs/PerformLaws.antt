@@ -26,14 +26,14 @@ use Rattle.place.specs.Whole.{relengthAll, termFront}
 use Rattle.filling.specs.Ranged.{RangedTerm}
 use Rattle.filling.proofs.RangedLaws.{sound-ranged}
 use Rattle.record.proofs.PaddedLaws.{padded-zeros}
-use Rattle.record.proofs.HeaderLaws.{length-encodeTerm}
+use Rattle.record.proofs.HeaderLaws.{length-encodeTerm, length-encodeTermRecord}
 use Rattle.record.proofs.WordsLaws.{termSize-substitute}
 use Rattle.rules.proofs.FreeVariablesLaws.{closed-nums}
 use Rattle.rules.proofs.SoundTermLaws.{sound-closed}
 use Rattle.place.proofs.AtLaws.{put-take}
 use Rattle.place.proofs.EditLaws.{length-lead, length-leafBytes, length-removed, removed-behind, removed-cut}
 use Rattle.place.proofs.HeadsLaws.{length-recordHead}
-use Rattle.place.proofs.TermBytesLaws.{length-encodeTermRecord, termSize-letAll, termSize-letOne, termSize-rec, termSize-tuple}
+use Rattle.place.proofs.TermBytesLaws.{termSize-letAll, termSize-letOne, termSize-rec, termSize-tuple}
 use Rattle.place.proofs.TermEditLaws.{letAll-gone, letOne-gone, letOne-set, rec-stopped, rec-unrolled}
 use Rattle.place.proofs.TermPathLaws.{termSize-plug}
 use Rattle.place.proofs.TermPutLaws.{put-letAll-last, put-letOne-last}

@@ -20,10 +20,10 @@ use Rattle.place.specs.TermView.{TermAt}
 use Rattle.place.specs.Whole.{termFront}
 use Rattle.record.proofs.PaddedLaws.{drop-padded, length-padded}
 use Rattle.record.proofs.HoldingLaws.{padded-term, term-size}
+use Rattle.record.proofs.HeaderLaws.{length-encodeTermRecord}
 use Rattle.rules.proofs.SoundTermLaws.{SoundAnswer, sound-reduce}
 use Rattle.rules.proofs.StoreLaws.{word-limit}
 use Rattle.place.proofs.NestingLaws.{plug-keeps}
-use Rattle.place.proofs.TermBytesLaws.{length-encodeTermRecord}
 use Rattle.place.proofs.TermPathLaws.{plug-redex, redex-at, termSize-plug}
 use Rattle.place.proofs.WholeLaws.{encodeTerm-plug, length-termFront, term-at, term-used}
 use Rattle.reducing.specs.State.{Stands}

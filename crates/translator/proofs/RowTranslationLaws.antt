@@ -9,10 +9,11 @@ use Rattle.rules.specs.Syntax.{Block, Bound, Expr, Term, assign, empty, loop, n
 use Rattle.rules.specs.Translation.{all, atomOf, simpleOf, translate}
 use Rattle.record.specs.Program.{blockSize}
 use Rattle.record.specs.Term.{encodeAtom, encodeSimple, encodeTermRecord, simpleSize, termSize}
+use Rattle.record.proofs.HeaderLaws.{length-encodeTermRecord}
 use Rattle.place.specs.Heads.{recordHead}
 use Rattle.place.specs.ProgramView.{append}
 use Rattle.place.proofs.ProgramBytesLaws.{blockSize-assign, blockSize-empty, blockSize-loop, blockSize-nest}
-use Rattle.place.proofs.TermBytesLaws.{encodeTermRecord-letAll, encodeTermRecord-letOne, encodeTermRecord-rec, length-encodeTermRecord, termSize-letAll, termSize-letOne, termSize-rec, termSize-tuple}
+use Rattle.place.proofs.TermBytesLaws.{encodeTermRecord-letAll, encodeTermRecord-letOne, encodeTermRecord-rec, termSize-letAll, termSize-letOne, termSize-rec, termSize-tuple}
 use Rattle.place.proofs.TranslatedLaws.{simple-most}
 use Rattle.rules.proofs.SoundTermLaws.{length-refs}
 use Rattle.translator.specs.RowTranslation.{allBytes, rowBytes, rowSize}

@@ -9,7 +9,7 @@ use Rattle.place.specs.Edit.{lead, leafBytes}
 use Rattle.place.specs.Heads.{recordHead}
 use Rattle.translator.specs.RowTranslation.{allBytes}
 
--- The number in 2 bytes, and in 4.
+-- The number in the 2 bytes at index p.
 abbrev pub u16At : List ℕ → ℕ → ℕ
 u16At l p = val (part l p 2)
 
