@@ -16,7 +16,7 @@ use Rattle.record.proofs.TermLaws.{length-encodeAtoms, length-encodeSimple}
 use Rattle.record.proofs.HeaderLaws.{length-encodeTermRecord}
 use Rattle.place.specs.At.{At}
 use Rattle.place.specs.Heads.{recordHead}
-use Rattle.place.specs.TermView.{AtomAt, AtomView, AtomsAt, LetAllView, LetAtomView, LetOfView, LetOneView, RecView, TermAt, TermView, TermsAt, TupleView, encodeTerms, isLetAllAt, isLetOneAt, isRecAt, isTupleAt, simpleKind, termsSize}
+use Rattle.place.specs.TermView.{AtomAt, AtomView, AtomsAt, LetAllView, LetOfView, LetOneView, RecView, TermAt, TermView, TermsAt, TupleView, encodeTerms, isLetAllAt, isLetOneAt, isRecAt, isTupleAt, simpleKind, termsSize}
 use Rattle.place.proofs.AtLaws.{at-index, at-part, at-room, at-same, word-read}
 use Rattle.place.proofs.HeadsLaws.{kind-at, leaf-read, length-at, length-recordHead}
 use Rattle.place.proofs.ProgramBytesLaws.{encodeLeaf-head}
@@ -311,63 +311,42 @@ module _ {l : List ℕ} {p k : ℕ} {t : Term} (h : TermAt l p k t) where
     pub simple-kind : (32 ≤ val (part l (p + 10) 2)) × (val (part l (p + 10) 2) ≤ 35)
     simple-kind = let v = as-letOne one in let r = simpleKind-range (v .bound) in omega arith
 
-    pub as-letAtom : val (part l (p + 10) 2) < 34 → LetAtomView l p k t
+    letOf : (make : Atom → Simple) (n : ℕ) (v : LetOneView l p k t) → v .bound ≡ make (atomOfSimple (v .bound)) → simpleSize (v .bound) ≡ n → LetOfView make n l p k t
+    letOf make n v b z =
+        let a : AtomAt l (p + n) (atomOfSimple (v .bound)) = atom-index (v .atom) (ap (λ (y : ℕ). p + y) z) in
+        let r = atom-read a (p + (2 + n)) (p + (4 + n)) (omega arith) (omega arith) in
+        record {
+          variable = v .variable;
+          atom = atomOfSimple (v .bound);
+          last = v .last;
+          is = v .is ∙ ap (λ (y : Simple). letOne (v .variable) y (v .last)) b;
+          size = v .size ∙ omega arith;
+          room = v .room;
+          kind = v .kind;
+          stored = v .stored ∙ omega arith;
+          variable-read = v .variable-read;
+          variable-bytes = v .variable-bytes;
+          kind-read = r .0;
+          number-read = r .1;
+          number-bytes = r .2;
+          atom-at = a;
+          last-at = term-index (v .last-at) (omega arith);
+        }
+
+    pub as-letAtom : val (part l (p + 10) 2) < 34 → LetOfView plain 8 l p k t
     as-letAtom e =
         let v = as-letOne one in
-        let b : v .bound ≡ plain (atomOfSimple (v .bound)) = kind-plain (v .bound) (rw (v .kind-read) at e) in
-        let z : simpleSize (v .bound) ≡ 8 = simple-low (v .bound) (rw (v .kind-read) at e) in
-        let a : AtomAt l (p + 8) (atomOfSimple (v .bound)) = atom-index (v .atom) (ap (λ (y : ℕ). p + y) z) in
-        let n = atom-read a (p + 10) (p + 12) (omega arith) (omega arith) in
-        record {
-          variable = v .variable;
-          atom = atomOfSimple (v .bound);
-          last = v .last;
-          is = v .is ∙ ap (λ (y : Simple). letOne (v .variable) y (v .last)) b;
-          size = v .size ∙ omega arith;
-          room = v .room;
-          kind = v .kind;
-          stored = v .stored ∙ omega arith;
-          variable-read = v .variable-read;
-          variable-bytes = v .variable-bytes;
-          kind-read = n .0;
-          number-read = n .1;
-          number-bytes = n .2;
-          atom-at = a;
-          last-at = term-index (v .last-at) (omega arith);
-        }
+        letOf plain 8 v (kind-plain (v .bound) (rw (v .kind-read) at e)) (simple-low (v .bound) (rw (v .kind-read) at e))
 
-    -- succ or pred, as `make` says
-    letOf : (make : Atom → Simple) (v : LetOneView l p k t) → v .bound ≡ make (atomOfSimple (v .bound)) → simpleSize (v .bound) ≡ 12 → LetOfView make l p k t
-    letOf make v b z =
-        let a : AtomAt l (p + 12) (atomOfSimple (v .bound)) = atom-index (v .atom) (ap (λ (y : ℕ). p + y) z) in
-        let n = atom-read a (p + 14) (p + 16) (omega arith) (omega arith) in
-        record {
-          variable = v .variable;
-          atom = atomOfSimple (v .bound);
-          last = v .last;
-          is = v .is ∙ ap (λ (y : Simple). letOne (v .variable) y (v .last)) b;
-          size = v .size ∙ omega arith;
-          room = v .room;
-          kind = v .kind;
-          stored = v .stored ∙ omega arith;
-          variable-read = v .variable-read;
-          variable-bytes = v .variable-bytes;
-          kind-read = n .0;
-          number-read = n .1;
-          number-bytes = n .2;
-          atom-at = a;
-          last-at = term-index (v .last-at) (omega arith);
-        }
-
-    pub as-letSucc : val (part l (p + 10) 2) ≡ 34 → LetOfView succOf l p k t
+    pub as-letSucc : val (part l (p + 10) 2) ≡ 34 → LetOfView succOf 12 l p k t
     as-letSucc e =
         let v = as-letOne one in
-        letOf succOf v (kind-succ (v .bound) (sym (v .kind-read) ∙ e)) (simple-high (v .bound) (omega (arith, v .kind-read)))
+        letOf succOf 12 v (kind-succ (v .bound) (sym (v .kind-read) ∙ e)) (simple-high (v .bound) (omega (arith, v .kind-read)))
 
-    pub as-letPred : val (part l (p + 10) 2) ≡ 35 → LetOfView predOf l p k t
+    pub as-letPred : val (part l (p + 10) 2) ≡ 35 → LetOfView predOf 12 l p k t
     as-letPred e =
         let v = as-letOne one in
-        letOf predOf v (kind-pred (v .bound) (sym (v .kind-read) ∙ e)) (simple-high (v .bound) (omega (arith, v .kind-read)))
+        letOf predOf 12 v (kind-pred (v .bound) (sym (v .kind-read) ∙ e)) (simple-high (v .bound) (omega (arith, v .kind-read)))
 
 -- TERMS ONE AFTER THE OTHER
 

@@ -72,41 +72,23 @@ pub record LetOneView (l : List ℕ) (p k : ℕ) (t : Term) : Type 0 where
   pub atom : AtomAt l (p + simpleSize bound) (atomOfSimple bound)
   pub last-at : TermAt l (p + (8 + simpleSize bound)) k last
 
--- A let-one of an atom.
-pub record LetAtomView (l : List ℕ) (p k : ℕ) (t : Term) : Type 0 where
-  pub variable : ℕ
-  pub atom : Atom
-  pub last : Term
-  pub is : t ≡ letOne variable (plain atom) last
-  pub size : termSize t ≡ 16 + termSize last
-  pub room : p + (4 + termSize t) ≤ length l
-  pub kind : val (part l (p + 2) 2) ≡ 37
-  pub stored : val (part l p 2) ≡ 20 + termSize last
-  pub variable-read : val (part l (p + 4) 4) ≡ variable
-  pub variable-bytes : part l (p + 4) 4 ≡ le 4 variable
-  pub kind-read : val (part l (p + 10) 2) ≡ atomKind atom
-  pub number-read : val (part l (p + 12) 4) ≡ atomNumber atom
-  pub number-bytes : part l (p + 12) 4 ≡ le 4 (atomNumber atom)
-  pub atom-at : AtomAt l (p + 8) atom
-  pub last-at : TermAt l (p + 16) k last
-
--- A let-one of succ or pred, as `make` says.
-pub record LetOfView (make : Atom → Simple) (l : List ℕ) (p k : ℕ) (t : Term) : Type 0 where
+-- A let-one of an atom, which then stands n = 8 bytes on, or of succ or pred of one, 12 bytes on, as `make` says.
+pub record LetOfView (make : Atom → Simple) (n : ℕ) (l : List ℕ) (p k : ℕ) (t : Term) : Type 0 where
   pub variable : ℕ
   pub atom : Atom
   pub last : Term
   pub is : t ≡ letOne variable (make atom) last
-  pub size : termSize t ≡ 20 + termSize last
+  pub size : termSize t ≡ 8 + n + termSize last
   pub room : p + (4 + termSize t) ≤ length l
   pub kind : val (part l (p + 2) 2) ≡ 37
-  pub stored : val (part l p 2) ≡ 24 + termSize last
+  pub stored : val (part l p 2) ≡ 12 + n + termSize last
   pub variable-read : val (part l (p + 4) 4) ≡ variable
   pub variable-bytes : part l (p + 4) 4 ≡ le 4 variable
-  pub kind-read : val (part l (p + 14) 2) ≡ atomKind atom
-  pub number-read : val (part l (p + 16) 4) ≡ atomNumber atom
-  pub number-bytes : part l (p + 16) 4 ≡ le 4 (atomNumber atom)
-  pub atom-at : AtomAt l (p + 12) atom
-  pub last-at : TermAt l (p + 20) k last
+  pub kind-read : val (part l (p + (2 + n)) 2) ≡ atomKind atom
+  pub number-read : val (part l (p + (4 + n)) 4) ≡ atomNumber atom
+  pub number-bytes : part l (p + (4 + n)) 4 ≡ le 4 (atomNumber atom)
+  pub atom-at : AtomAt l (p + n) atom
+  pub last-at : TermAt l (p + (8 + n)) k last
 
 -- A let-all.
 pub record LetAllView (l : List ℕ) (p k : ℕ) (t : Term) : Type 0 where

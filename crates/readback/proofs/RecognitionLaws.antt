@@ -133,7 +133,7 @@ module _ {l : List ℕ} {p k : ℕ} {t : Term} (h : TermAt l p k t) (first : Boo
     legal-atom b = sym (ap (legal k first) (as-letAtom h e b .is))
 
     -- it is succ or pred
-    of-either : (B : Type 0) → (LetOfView succOf l p k t → B) → (LetOfView predOf l p k t → B) → 34 ≤ val (part l (p + 10) 2) → B
+    of-either : (B : Type 0) → (LetOfView succOf 12 l p k t → B) → (LetOfView predOf 12 l p k t → B) → 34 ≤ val (part l (p + 10) 2) → B
     of-either B f g q = go (eqb (val (part l (p + 10) 2)) 34) refl
       where
         go : (c : Bool) → eqb (val (part l (p + 10) 2)) 34 ≡ c → B
