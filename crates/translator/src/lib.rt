@@ -1,5 +1,5 @@
-// Translation over bytes (01 "Translation and read-back"): the term's length, and the term written into another buffer. Works on
-// a checked program.
+// Translation over bytes (01 "Translation and read-back"): the term's length, and the term written into another buffer. Works
+// on a checked program.
 ghost use mathlib.Core.Path.{_≡_};
 ghost use Prim.Native.Nat.{_+_, _-_, _*_, _≤_, _<_};
 ghost use lib.Dec.{ltb};
