@@ -27,9 +27,9 @@ use Rattle.place.proofs.TermViewLaws.{as-letAll, as-letOne, as-rec, atom-view, 
 use Rattle.record.proofs.HeaderLaws.{length-encodeProgram}
 use Rattle.record.proofs.PaddedLaws.{written-padded}
 use Rattle.readback.specs.CommandBytes.{commandsOf, commandsOfAll, loopBytes, ownCommand}
-use Rattle.readback.specs.Scan.{TermsAt, inner, ownSize}
-use Rattle.readback.proofs.CommandLaws.{command-nest, commands-end, commands-one, commands-readBack, commands-step, length-commands}
-use Rattle.readback.proofs.ScanLaws.{own-letOne, simple-least, own-rec, terms-end, terms-first, terms-one}
+use Rattle.recognition.specs.Scan.{TermsAt, inner, ownSize}
+use Rattle.readback.proofs.CommandLaws.{command-nest, commands-end, commands-one, commands-readBack, commands-step, length-commands, simple-least}
+use Rattle.recognition.proofs.ScanLaws.{own-letOne, own-rec, terms-end, terms-first, terms-one}
 
 module _ {l : List ℕ} {p k : ℕ} {t : Term} (h : TermAt l p k t) where
   -- A LET-ONE: its own bytes end with its atom's number

@@ -1,3 +1,1 @@
-pub mod Scan
-pub mod Recognition
 pub mod CommandBytes

@@ -1,9 +1,9 @@
 // The call read back: the program of a term that is a translation, into another buffer (01 "Translation and read-back").
 use super::LONGEST;
 use super::Written;
-use readback::read_back::is_translation;
-use readback::read_back::source_size;
-use readback::read_back::write_source;
+use readback::source_size;
+use readback::write_source;
+use recognition::is_translation;
 use term_checker::check_term;
 ghost use mathlib.Core.Path.{_≡_};
 ghost use Prim.Native.Nat.{_≤_};

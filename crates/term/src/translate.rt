@@ -2,8 +2,8 @@
 use super::LONGEST;
 use super::Written;
 use program_checker::check_program;
-use translator::translation::translation_size;
-use translator::translation::write_translation;
+use translator::translation_size;
+use translator::write_translation;
 ghost use mathlib.Core.Path.{_≡_};
 ghost use Prim.Native.Nat.{_≤_};
 ghost use lib.ListN.{length};

@@ -15,8 +15,8 @@ use Rattle.place.proofs.ProgramViewLaws.{block-index}
 use Rattle.translator.specs.RowTranslation.{RowAt, allBytes, rowBytes, rowSize}
 use Rattle.translator.specs.TranslationHeads.{letAllHead, letAllSize, letOneHead, letOneSize, opening, u16At}
 use Rattle.translator.specs.TranslationTasks.{Left, PartsOf, TaskIn, cutAt, pastHeads}
-use Rattle.translator.specs.declared.translation.Parts.{Parts}
-use Rattle.translator.specs.declared.translation.Task.{Task}
+use Rattle.translator.specs.declared.Parts.{Parts}
+use Rattle.translator.specs.declared.Task.{Task}
 use Rattle.translator.proofs.RowTranslationLaws.{length-rowBytes, rowBytes-empty, rowSize-least}
 use Rattle.translator.proofs.RowViewLaws.{Opened, row-assign, row-four, row-none, row-open, row-room}
 

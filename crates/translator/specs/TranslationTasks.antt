@@ -8,8 +8,8 @@ use Rattle.buffer.specs.Slice.{put}
 use Rattle.rules.specs.Syntax.{Block}
 use Rattle.translator.specs.RowTranslation.{RowAt, rowBytes, rowSize}
 use Rattle.translator.specs.TranslationHeads.{letAllHead, letAllSize, opening, u16At}
-use Rattle.translator.specs.declared.translation.Parts.{Parts}
-use Rattle.translator.specs.declared.translation.Task.{Task}
+use Rattle.translator.specs.declared.Parts.{Parts}
+use Rattle.translator.specs.declared.Task.{Task}
 
 -- The commands of a task are those of a block, and its place in the output is as long as their translation.
 pub record TaskIn (k : ℕ) (src : List ℕ) (t : Task) : Type 0 where
