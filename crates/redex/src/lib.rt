@@ -1,2 +1,152 @@
-// The next reduction of a closed term, looked up before a byte is written (01 "Reducer").
-pub mod look;
+// The next reduction of a closed term, looked up before a byte is written (01 "Reducer"): its plan, from the bytes, with nothing
+// changed.
+ghost use mathlib.Core.Path.{_≡_};
+ghost use Prim.Native.Nat.{ℕ, _+_, _*_, _≤_};
+ghost use lib.ListN.{length};
+ghost use Rattle.buffer.specs.LittleEndian.{val};
+ghost use Rattle.buffer.specs.Slice.{part};
+ghost use Rattle.record.specs.Header.{contentsAt};
+ghost use Rattle.record.specs.Holding.{TermIn};
+ghost use Rattle.place.specs.TermPath.{entersAt, termPath};
+ghost use Rattle.place.specs.TermView.{TermAt};
+ghost use Rattle.rules.specs.FreeVariables.{noVars};
+ghost use Rattle.rules.specs.Sound.{SoundTerm};
+ghost use Rattle.rules.specs.Store.{fitsWord};
+ghost use Rattle.rules.specs.Syntax.{Term};
+ghost use Rattle.redex.specs.Plan.{planOf, planRedex};
+use plan::Plan;
+use plan::Rule;
+use plan::raise;
+use record::kind::LET_ALL;
+use record::kind::LET_ONE;
+use record::kind::NUMERAL;
+use record::kind::PRED;
+use record::kind::REC;
+use record::kind::TUPLE;
+
+// Whether a let-all whose first term is no tuple begins at p.
+fn enters(buf: &[u8], p: usize) -> bool
+    requires { ⌜ (p + 4 ≤ length (now buf)) × (val (part (now buf) (p + 2) 2) ≡ 38 → p + 8 ≤ length (now buf)) ⌝ }
+    ensures { λ r. ⌜ r ≡ entersAt (now (buf .entry)) p ⌝ }
+{
+    if buffer::get_u16(buf, p + 2) == LET_ALL {
+        if buffer::get_u16(buf, p + 6) == TUPLE {
+            return false;
+        }
+        return true;
+    }
+    false
+}
+
+// How many let-alls are open around the redex.
+fn open_levels(buf: &[u8]) -> usize
+    requires { ⌜ ((k : ℕ) × ((t : Term) × TermAt (now buf) contentsAt k t)) ⌝ }
+    ensures { λ r. ⌜ ((k : ℕ) (t : Term) → TermAt (now (buf .entry)) contentsAt k t → r ≡ length (termPath t)) ⌝ }
+{
+    let mut levels = 0;
+    while enters(buf, record::HEADER_LENGTH + 4 * levels) {
+        levels += 1;
+    }
+    levels
+}
+
+// The plan of a closed let-one at index at. What it binds is a numeral, or succ or pred of one.
+fn look_let_one(buf: &[u8], at: usize, levels: usize) -> Plan
+    requires { ⌜ ((k : ℕ) × ((t : Term) × TermAt (now buf) at k t)) × (val (part (now buf) (at + 2) 2) ≡ 37) ⌝ }
+    ensures { λ p. ⌜ ((k : ℕ) (t : Term) → TermAt (now (buf .entry)) at k t → SoundTerm fitsWord k noVars t → p ≡ planRedex levels at t) ⌝ }
+{
+    let variable = buffer::get_u32(buf, at + 4);
+    let kind = buffer::get_u16(buf, at + 10);
+    if kind == NUMERAL {
+        let value = buffer::get_u32(buf, at + 12);
+        return Plan {
+            rule: Rule::Bind,
+            levels: levels,
+            at: at,
+            variable: variable,
+            value: value,
+            up: 0,
+            down: 16,
+        };
+    }
+    let value = buffer::get_u32(buf, at + 16);
+    if kind == PRED {
+        let less = run::value::minus_one(value);
+        return Plan {
+            rule: Rule::Evaluate,
+            levels: levels,
+            at: at,
+            variable: variable,
+            value: less,
+            up: 0,
+            down: 4,
+        };
+    }
+    raise(at, levels, variable, value, 4)
+}
+
+// The plan of a closed rec at index at. Its body has what is left of its record behind 24 bytes and the start tuple's atoms.
+fn look_rec(buf: &[u8], at: usize, levels: usize, k: u32) -> Plan
+    requires { ⌜ ((t : Term) × TermAt (now buf) at k t) × (val (part (now buf) (at + 2) 2) ≡ 39) ⌝ }
+    ensures { λ p. ⌜ ((t : Term) → TermAt (now (buf .entry)) at k t → SoundTerm fitsWord k noVars t → p ≡ planRedex levels at t) ⌝ }
+{
+    let variable = buffer::get_u32(buf, at + 4);
+    let value = buffer::get_u32(buf, at + 12);
+    let body = buffer::get_u16(buf, at) - (24 + 8 * k as usize);
+    if value == 0 {
+        return Plan {
+            rule: Rule::Stop,
+            levels: levels,
+            at: at,
+            variable: variable,
+            value: 0,
+            up: 0,
+            down: 20 + body,
+        };
+    }
+    Plan {
+        rule: Rule::Unroll,
+        levels: levels,
+        at: at,
+        variable: variable,
+        value: value,
+        up: 24 + body,
+        down: 0,
+    }
+}
+
+// The plan of the next reduction of a closed term of k variables.
+pub fn look(buf: &[u8], k: u32) -> Plan
+    requires { ⌜ ((t : Term) × ((used : ℕ) × TermIn noVars k t (now buf) used)) × (length (now buf) ≤ 16384) ⌝ }
+    ensures { λ p. ⌜ ((t : Term) (used : ℕ) → TermIn noVars k t (now (buf .entry)) used → p ≡ planOf t) ⌝ }
+{
+    let levels = open_levels(buf);
+    let at = record::HEADER_LENGTH + 4 * levels;
+    let kind = buffer::get_u16(buf, at + 2);
+    if kind == LET_ONE {
+        return look_let_one(buf, at, levels);
+    }
+    if kind == REC {
+        return look_rec(buf, at, levels, k);
+    }
+    if kind == TUPLE {
+        return Plan {
+            rule: Rule::Finished,
+            levels: levels,
+            at: at,
+            variable: 0,
+            value: 0,
+            up: 0,
+            down: 0,
+        };
+    }
+    Plan {
+        rule: Rule::Leave,
+        levels: levels,
+        at: at,
+        variable: 0,
+        value: 0,
+        up: 0,
+        down: 8 + 8 * k as usize,
+    }
+}

@@ -28,10 +28,10 @@ use Rattle.run.proofs.GoingLaws.{Going, going-answers, going-ends, going-furthe
 use Rattle.plan.specs.Plan.{planReads}
 use Rattle.plan.specs.declared.Plan.{Plan}
 use Rattle.plan.proofs.TellsLaws.{tells-further, tells-reads}
+use Rattle.command.specs.Plan.{planOf}
+use Rattle.command.proofs.PlanMeaningLaws.{plan-tells}
 use Rattle.stepping.specs.Perform.{Performed, Ready}
-use Rattle.stepping.specs.Plan.{planOf}
 use Rattle.stepping.specs.State.{Stands, configBytes}
-use Rattle.stepping.proofs.PlanMeaningLaws.{plan-tells}
 use Rattle.stepping.proofs.PerformLaws.{plan-sums}
 use Rattle.stepper.specs.RunStepper.{steppedTo, steps}
 use Rattle.stepper.specs.Running.{Accepted, Gives}

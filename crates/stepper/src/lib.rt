@@ -6,12 +6,12 @@ ghost use Rattle.rules.specs.Syntax.{Block};
 ghost use Rattle.run.specs.Represents.{asRunAnswer};
 ghost use Rattle.stepper.specs.RunStepper.{runStepper};
 ghost use Rattle.stepper.specs.Running.{Accepted, Gives, acceptedRun};
+use command::look;
 use plan::outcome_of;
 use program_checker::check_program;
 use run::RunEnd;
 use run::Tally;
-use stepping::look::look;
-use stepping::perform::perform;
+use stepping::perform;
 
 // The run of what the rows let through. The bytes behind the record are made zero first, and every step leaves them so; room is
 // looked for in the whole lent buffer.

@@ -1,6 +1,4 @@
-pub mod LookLaws
 pub mod EditedLaws
 pub mod PlanLaws
 pub mod StateLaws
 pub mod PerformLaws
-pub mod PlanMeaningLaws

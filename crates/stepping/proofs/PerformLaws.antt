@@ -32,8 +32,8 @@ use Rattle.place.proofs.UnrolledLaws.{unrolled-behind}
 use Rattle.place.proofs.WholeLaws.{encodeProgram-relength, length-programFront}
 use Rattle.plan.specs.Plan.{Moves}
 use Rattle.plan.specs.declared.Plan.{Plan}
+use Rattle.command.specs.Plan.{planOf}
 use Rattle.stepping.specs.Perform.{Performed, PlanFits, Ready, edited, stoppedAt, unrolledAt, valued}
-use Rattle.stepping.specs.Plan.{planOf}
 use Rattle.stepping.specs.State.{Stands, configBytes}
 use Rattle.stepping.proofs.PlanLaws.{Planned, planned-block, plannedBind, plannedEvaluate, plannedFinished, plannedLeave, plannedOver, plannedStop, plannedUnroll}
 use Rattle.stepping.proofs.StateLaws.{spot-bytes, spot-room, spot-used, stands-after, zeros-behind}

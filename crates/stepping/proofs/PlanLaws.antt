@@ -15,7 +15,7 @@ use Rattle.place.specs.Path.{Spot, spot, spotAssign, spotEmpty, spotLoop}
 use Rattle.plan.specs.Plan.{plan, planRaise}
 use Rattle.plan.specs.declared.Plan.{Plan}
 use Rattle.plan.specs.declared.Rule.the-variants.{Bind, Evaluate, Finished, Leave, Over, Stop, Unroll}
-use Rattle.stepping.specs.Plan.{planAssign, planLoop, planSpot}
+use Rattle.command.specs.Plan.{planAssign, planLoop, planSpot}
 
 -- The plan of a block at p, with the store s: the first command, and the rule that acts on it.
 pub data Planned (s : List ℕ) (levels p : ℕ) : Block → Plan → Type 0 where

@@ -17,7 +17,7 @@ use Rattle.plan.specs.Plan.{Moves}
 use Rattle.plan.specs.declared.Plan.{Plan}
 use Rattle.plan.specs.declared.Rule.{Rule}
 use Rattle.plan.specs.declared.Rule.the-variants.{Bind, Evaluate, Finished, Leave, Over, Stop, Unroll}
-use Rattle.stepping.specs.Plan.{planOf}
+use Rattle.command.specs.Plan.{planOf}
 use Rattle.stepping.specs.State.{Stands, configBytes}
 
 -- THE BYTES

@@ -1,0 +1,74 @@
+use Rattle.command.proofs.open_levels.Statement.{statement}
+use Rattle.command.proofs.open_levels.Tie as tie
+use Rattle.command.proofs.open_levels.Reads as reads
+use Rattle.command.proofs.open_levels.Lts as lts
+use Rattle.command.proofs.opens.Reads as opens-reads
+use mathlib.Core.Path.{_≡_, sym, _∙_}
+use Prim.Native.Nat.{_+_, _-_, _*_, _<_}
+use native.Mathlib.Omega.{arith}
+use lib.ListN.{length}
+use Rattle.rules.specs.Syntax.{Block}
+use Rattle.record.specs.Program.{blockSize}
+use Rattle.place.specs.ProgramView.{BlockAt}
+use Rattle.place.specs.Path.{Walk}
+use Rattle.place.proofs.PathLaws.{walk-start, walk-room, walk-next, walk-end}
+
+abbrev Inv-loop : tie.InvT-loop
+Inv-loop buf levels₀ levels = (P : Block) → BlockAt buf 12 P → 0 < blockSize P → Walk P 12 (12 + 4 * levels)
+
+abbrev μ-loop : tie.MeasureT-loop
+μ-loop buf levels₀ levels = length buf - (12 + 4 * levels)
+
+loop-holds : tie.Need-loop-holds Inv-loop μ-loop
+loop-holds c = λ P h s. walk-start P 12 s
+
+mul-opens : tie.Need-mul-opens Inv-loop μ-loop
+mul-opens c =
+    let h = c .before .before .pre .1 .0 in
+    omega (arith, walk-room h (c .loop .inv (c .before .before .pre .0) h (c .before .before .pre .1 .1)))
+
+add-opens : tie.Need-add-opens Inv-loop μ-loop
+add-opens c =
+    let h = c .before .before .pre .1 .0 in
+    omega (arith, walk-room h (c .loop .inv (c .before .before .pre .0) h (c .before .before .pre .1 .1)))
+
+opens-requires : tie.Need-opens-requires Inv-loop μ-loop
+opens-requires c κs =
+    let h = c .before .before .pre .1 .0 in
+    omega (arith, walk-room h (c .loop .inv (c .before .before .pre .0) h (c .before .before .pre .1 .1)))
+
+add-levels : tie.Need-add-levels Inv-loop μ-loop
+add-levels c =
+    let h = c .before .before .before .before .pre .1 .0 in
+    omega (arith, walk-room h (c .before .before .loop .inv (c .before .before .before .before .pre .0) h (c .before .before .before .before .pre .1 .1)))
+
+loop-less : tie.Need-loop-less Inv-loop μ-loop
+loop-less c =
+    let h = c .before .before .before .before .pre .1 .0 in
+    omega (arith, walk-room h (c .before .before .loop .inv (c .before .before .before .before .pre .0) h (c .before .before .before .before .pre .1 .1)))
+
+loop-again : tie.Need-loop-again Inv-loop μ-loop
+loop-again c =
+    λ P h s.
+    let w = walk-next h (c .before .before .loop .inv P h s) (sym (c .before .opens .ensures) ∙ c .if1 .taken) in
+    let e : 12 + 4 * (c .before .before .loop .levels) + 4 ≡ 12 + 4 * (c .before .before .loop .levels + 1) = omega arith in
+    rw e at w
+
+returns : tie.Need-returns Inv-loop μ-loop
+returns c =
+    λ P h s. omega (arith, walk-end h (c .before .before .loop .inv P h s) (sym (c .before .opens .ensures) ∙ c .if1 .left))
+
+pub open-levels-spec : {M : Type 1} → statement M
+open-levels-spec =
+    tie.close
+    (tie.spec
+    Inv-loop
+    μ-loop
+    loop-holds
+    mul-opens
+    add-opens
+    opens-requires
+    add-levels
+    loop-less
+    loop-again
+    returns)

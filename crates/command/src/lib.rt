@@ -1,0 +1,176 @@
+// The next step of a configuration, looked up before a byte is written (01 "Stepper"): its plan, from the bytes and the store,
+// with nothing changed.
+ghost use mathlib.Core.Path.{_≡_};
+ghost use Prim.Native.Nat.{ℕ, _+_, _*_, _≤_, _<_};
+ghost use lib.ListN.{length};
+ghost use Rattle.rules.specs.Syntax.{Block, Bound, Expr, assign, loop};
+ghost use Rattle.rules.specs.Scope.{BoundWithin, ExprWithin};
+ghost use Rattle.rules.specs.Step.{boundValue};
+ghost use Rattle.record.specs.Program.{blockSize, boundKind, boundNumber};
+ghost use Rattle.record.specs.Holding.{ProgramIn};
+ghost use Rattle.place.specs.Path.{opensAt, path};
+ghost use Rattle.place.specs.ProgramView.{BlockAt};
+ghost use Rattle.plan.specs.Plan.{plan};
+ghost use Rattle.plan.specs.declared.Rule.the-variants.{Bind};
+ghost use Rattle.command.specs.Plan.{planAssign, planLoop, planOf};
+use plan::Plan;
+use plan::Rule;
+use plan::raise;
+use record::kind::ASSIGNMENT;
+use record::kind::BLOCK;
+use record::kind::LITERAL;
+use record::kind::LOOP;
+use record::kind::MINUS_ONE;
+use record::kind::VARIABLE;
+
+// Where the commands of a program's block start: behind the header and the head of that block.
+const COMMANDS: usize = record::HEADER_LENGTH + 4;
+
+// Whether a block with commands in it begins at p.
+fn opens(buf: &[u8], p: usize) -> bool
+    requires { ⌜ p + 4 ≤ length (now buf) ⌝ }
+    ensures { λ r. ⌜ r ≡ opensAt (now (buf .entry)) p ⌝ }
+{
+    if buffer::get_u16(buf, p + 2) == BLOCK {
+        4 < buffer::get_u16(buf, p)
+    } else {
+        false
+    }
+}
+
+// How many blocks are open around the command that the rules act on.
+fn open_levels(buf: &[u8]) -> usize
+    requires { ⌜ ((P : Block) × (BlockAt (now buf) 12 P × (0 < blockSize P))) ⌝ }
+    ensures { λ r. ⌜ ((P : Block) → BlockAt (now (buf .entry)) 12 P → 0 < blockSize P → r ≡ length (path P)) ⌝ }
+{
+    let mut levels = 0;
+    while opens(buf, COMMANDS + 4 * levels) {
+        levels += 1;
+    }
+    levels
+}
+
+// Rules 3 and 4: the value is stored, and the assignment's 16 bytes go.
+fn look_store(at: usize, levels: usize, variable: u32, value: u32) -> Plan
+    ensures { λ p. ⌜ p ≡ plan levels at Bind variable value 0 16 ⌝ }
+{
+    Plan {
+        rule: Rule::Bind,
+        levels: levels,
+        at: at,
+        variable: variable,
+        value: value,
+        up: 0,
+        down: 16,
+    }
+}
+
+// The plan of an assignment at index at.
+fn look_assign(buf: &[u8], at: usize, levels: usize, store: &[u32]) -> Plan
+    requires { ⌜ ((x : ℕ) × ((e : Expr) × ((r : Block) × (BlockAt (now buf) at (assign x e r) × ExprWithin (length (now store)) e)))) ⌝ }
+    ensures { λ p. ⌜ ((x : ℕ) (e : Expr) (r : Block) → BlockAt (now (buf .entry)) at (assign x e r) → ExprWithin (length (now (store .entry))) e → p ≡ planAssign levels at x e (now (store .entry))) ⌝ }
+{
+    let variable = buffer::get_u32(buf, at + 4);
+    let kind = buffer::get_u16(buf, at + 10);
+    let number = buffer::get_u32(buf, at + 12);
+    if kind == LITERAL {
+        return look_store(at, levels, variable, number);
+    }
+    let value = run::value::value_of(store, number);
+    if kind == VARIABLE {
+        return look_store(at, levels, variable, value);
+    }
+    if kind == MINUS_ONE {
+        let less = run::value::minus_one(value);
+        return Plan {
+            rule: Rule::Evaluate,
+            levels: levels,
+            at: at,
+            variable: variable,
+            value: less,
+            up: 0,
+            down: 0,
+        };
+    }
+    raise(at, levels, variable, value, 0)
+}
+
+// The value of a loop's bound, a literal or a variable.
+fn bound_value(kind: usize, number: u32, store: &[u32]) -> u32
+    requires { ⌜ ((b : Bound) × ((kind ≡ boundKind b) × ((number ≡ boundNumber b) × BoundWithin (length (now store)) b))) ⌝ }
+    ensures { λ r. ⌜ ((b : Bound) → kind ≡ boundKind b → number ≡ boundNumber b → r ≡ boundValue (now (store .entry)) b) ⌝ }
+{
+    if kind == LITERAL {
+        number
+    } else {
+        run::value::value_of(store, number)
+    }
+}
+
+// The plan of a loop at index at.
+fn look_loop(buf: &[u8], at: usize, levels: usize, store: &[u32]) -> Plan
+    requires { ⌜ ((x : ℕ) × ((b : Bound) × ((c : Block) × ((r : Block) × (BlockAt (now buf) at (loop x b c r) × BoundWithin (length (now store)) b))))) ⌝ }
+    ensures { λ p. ⌜ ((x : ℕ) (b : Bound) (c r : Block) → BlockAt (now (buf .entry)) at (loop x b c r) → BoundWithin (length (now (store .entry))) b → p ≡ planLoop levels at x (blockSize c) (boundValue (now (store .entry)) b)) ⌝ }
+{
+    let variable = buffer::get_u32(buf, at + 4);
+    let body = buffer::get_u16(buf, at) - 20;
+    let kind = buffer::get_u16(buf, at + 10);
+    let number = buffer::get_u32(buf, at + 12);
+    let value = bound_value(kind, number, store);
+    if value == 0 {
+        return Plan {
+            rule: Rule::Stop,
+            levels: levels,
+            at: at,
+            variable: variable,
+            value: 0,
+            up: 0,
+            down: 16 + body,
+        };
+    }
+    Plan {
+        rule: Rule::Unroll,
+        levels: levels,
+        at: at,
+        variable: variable,
+        value: value,
+        up: 20 + body,
+        down: 0,
+    }
+}
+
+// The plan of the next step.
+pub fn look(buf: &[u8], used: usize, store: &[u32]) -> Plan
+    requires { ⌜ ((k : ℕ) × ((P : Block) × (ProgramIn k P (now buf) used × ((length (now buf) ≤ 16384) × (length (now store) ≡ k))))) ⌝ }
+    ensures { λ p. ⌜ ((k : ℕ) (P : Block) → ProgramIn k P (now (buf .entry)) used → length (now (store .entry)) ≡ k → p ≡ planOf P (now (store .entry))) ⌝ }
+{
+    if used == COMMANDS {
+        return Plan {
+            rule: Rule::Finished,
+            levels: 0,
+            at: COMMANDS,
+            variable: 0,
+            value: 0,
+            up: 0,
+            down: 0,
+        };
+    }
+    let levels = open_levels(buf);
+    let at = COMMANDS + 4 * levels;
+    let kind = buffer::get_u16(buf, at + 2);
+    if kind == ASSIGNMENT {
+        return look_assign(buf, at, levels, store);
+    }
+    if kind == LOOP {
+        return look_loop(buf, at, levels, store);
+    }
+    Plan {
+        rule: Rule::Leave,
+        levels: levels,
+        at: at,
+        variable: 0,
+        value: 0,
+        up: 0,
+        down: 4,
+    }
+}

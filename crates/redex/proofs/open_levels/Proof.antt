@@ -1,0 +1,76 @@
+use Rattle.redex.proofs.open_levels.Statement.{statement}
+use Rattle.redex.proofs.open_levels.Tie as tie
+use Rattle.redex.proofs.open_levels.Reads as reads
+use Rattle.redex.proofs.open_levels.Lts as lts
+use Rattle.redex.proofs.enters.Reads as enters-reads
+use mathlib.Core.Path.{_≡_, sym, _∙_}
+use Prim.Native.Nat.{ℕ, _+_, _*_, _-_}
+use native.Mathlib.Omega.{arith}
+use lib.ListN.{length}
+use Rattle.record.specs.Header.{contentsAt}
+use Rattle.rules.specs.Syntax.{Term}
+use Rattle.place.specs.TermView.{TermAt}
+use Rattle.place.specs.TermPath.{TermWalk}
+use Rattle.place.proofs.TermPathLaws.{termWalk-end, termWalk-first, termWalk-next, termWalk-room, termWalk-start}
+
+abbrev Inv-loop : tie.InvT-loop
+Inv-loop buf levels₀ levels =
+    (k : ℕ) (t : Term) → TermAt buf contentsAt k t → TermWalk t contentsAt (contentsAt + 4 * levels)
+
+abbrev μ-loop : tie.MeasureT-loop
+μ-loop buf levels₀ levels = length buf - (contentsAt + 4 * levels)
+
+loop-holds : tie.Need-loop-holds Inv-loop μ-loop
+loop-holds c = λ k t h. termWalk-start t contentsAt
+
+mul-enters : tie.Need-mul-enters Inv-loop μ-loop
+mul-enters c =
+    let h = c .before .before .pre .1 .1 in
+    omega (arith, termWalk-room h (c .loop .inv (c .before .before .pre .0) (c .before .before .pre .1 .0) h))
+
+add-enters : tie.Need-add-enters Inv-loop μ-loop
+add-enters c =
+    let h = c .before .before .pre .1 .1 in
+    omega (arith, termWalk-room h (c .loop .inv (c .before .before .pre .0) (c .before .before .pre .1 .0) h))
+
+enters-requires : tie.Need-enters-requires Inv-loop μ-loop
+enters-requires c κs =
+    let h = c .before .before .pre .1 .1 in
+    let w = c .loop .inv (c .before .before .pre .0) (c .before .before .pre .1 .0) h in
+    (termWalk-room h w, termWalk-first h w)
+
+add-levels : tie.Need-add-levels Inv-loop μ-loop
+add-levels c =
+    let h = c .before .before .before .before .pre .1 .1 in
+    omega (arith, termWalk-room h (c .before .before .loop .inv (c .before .before .before .before .pre .0) (c .before .before .before .before .pre .1 .0) h))
+
+loop-less : tie.Need-loop-less Inv-loop μ-loop
+loop-less c =
+    let h = c .before .before .before .before .pre .1 .1 in
+    omega (arith, termWalk-room h (c .before .before .loop .inv (c .before .before .before .before .pre .0) (c .before .before .before .before .pre .1 .0) h))
+
+loop-again : tie.Need-loop-again Inv-loop μ-loop
+loop-again c =
+    λ k t h.
+    let w = termWalk-next h (c .before .before .loop .inv k t h) (sym (c .before .enters .ensures) ∙ c .if1 .taken) in
+    let e : contentsAt + 4 * (c .before .before .loop .levels) + 4 ≡ contentsAt + 4 * (c .before .before .loop .levels + 1) = omega arith in
+    rw e at w
+
+returns : tie.Need-returns Inv-loop μ-loop
+returns c =
+    λ k t h. omega (arith, termWalk-end h (c .before .before .loop .inv k t h) (sym (c .before .enters .ensures) ∙ c .if1 .left))
+
+pub open-levels-spec : {M : Type 1} → statement M
+open-levels-spec =
+    tie.close
+    (tie.spec
+    Inv-loop
+    μ-loop
+    loop-holds
+    mul-enters
+    add-enters
+    enters-requires
+    add-levels
+    loop-less
+    loop-again
+    returns)

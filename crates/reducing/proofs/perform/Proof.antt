@@ -1,0 +1,40 @@
+-- Every term that stands in the buffer has this plan, so the two calls are its reduction.
+use borrow.Author.Needs.{needs}
+use Rattle.reducing.proofs.perform.Statement.{statement}
+use Rattle.reducing.proofs.perform.Tie as tie
+use native.Mathlib.Omega.{arith}
+use Rattle.reducing.proofs.PerformLaws.{performs, ready-fits}
+
+edit-requires : tie.Need-edit-requires
+edit-requires c κs =
+    let h = c .before .before .pre .1 in
+    (ready-fits (c .before .before .args .p) h .edit, h .stands .holds .within, h .stands .short)
+
+relength-requires : tie.Need-relength-requires
+relength-requires c κs =
+    let f = ready-fits (c .before .before .before .before .before .before .args .p) (c .before .before .before .before .before .before .pre .1) in
+    omega (arith, c .before .before .before .edit .kept .0)
+
+add-result : tie.Need-add-result
+add-result c =
+    let h = c .before .before .before .before .before .before .before .before .before .before .pre .1 in
+    let f = ready-fits (c .before .before .before .before .before .before .before .before .before .before .args .p) h in
+    omega (arith, h .stands .short, h .stands .holds .within)
+
+sub-result : tie.Need-sub-result
+sub-result c =
+    let h = c .before .before .before .before .before .before .before .before .before .before .before .pre .1 in
+    let f = ready-fits (c .before .before .before .before .before .before .before .before .before .before .before .args .p) h in
+    omega (arith, h .stands .short, h .stands .holds .within)
+
+same-length : tie.Need-same-length
+same-length c = search needs
+
+returns : tie.Need-returns
+returns c =
+    let g = c .before .before .before .before .before .before .before .before .before .before .before .pre .1 in
+    λ t h e. performs h (c .before .before .before .before .before .before .before .before .before .before .before .args .p) e (g .moves) (g .fits) _ _ (c .before .before .before .before .before .before .before .before .edit .ensures) (c .before .before .before .before .relength .ensures)
+
+pub perform-spec : {M : Type 1} → statement M
+perform-spec =
+    tie.close (tie.spec edit-requires relength-requires add-result sub-result same-length returns)
