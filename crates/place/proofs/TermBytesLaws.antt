@@ -9,7 +9,6 @@ use Rattle.rules.specs.FreeVariables.{atomOfSimple}
 use Rattle.rules.specs.Syntax.{Atom, Simple, Term, letAll, letOne, num, plain, predOf, rec, ref, succOf, tuple}
 use Rattle.record.specs.Term.{atomFrom, atomKind, atomNumber, encodeAtom, encodeAtoms, encodeSimple, encodeTermRecord, kindOfTerm, simpleSize, termContents, termSize}
 use Rattle.record.proofs.ReadingLaws.{length-encodeLeaf}
-use Rattle.record.proofs.RecordLaws.{length-encodeRecord}
 use Rattle.record.proofs.TermLaws.{length-termContents}
 use Rattle.place.specs.Heads.{recordHead}
 use Rattle.place.specs.TermView.{simpleKind}
@@ -64,6 +63,24 @@ unfolding simpleKind simpleSize
 simple-high (plain a) h = absurd (omega (arith, atomKind-range a))
 simple-high (succOf a) h = refl
 simple-high (predOf a) h = refl
+
+pub simple-least : (s : Simple) → 8 ≤ simpleSize s
+unfolding simpleSize
+simple-least (plain a) = omega arith
+simple-least (succOf a) = omega arith
+simple-least (predOf a) = omega arith
+
+pub size-plain : (a : Atom) → simpleSize (plain a) ≡ 8
+unfolding simpleSize
+size-plain a = refl
+
+pub size-succ : (a : Atom) → simpleSize (succOf a) ≡ 12
+unfolding simpleSize
+size-succ a = refl
+
+pub size-pred : (a : Atom) → simpleSize (predOf a) ≡ 12
+unfolding simpleSize
+size-pred a = refl
 
 pub kind-plain : (s : Simple) → simpleKind s < 34 → s ≡ plain (atomOfSimple s)
 unfolding simpleKind
@@ -142,6 +159,9 @@ termSize-tuple ys = refl
 pub termSize-letOne : (x : ℕ) (s : Simple) (t : Term) → termSize (letOne x s t) ≡ 8 + simpleSize s + termSize t
 unfolding termSize
 termSize-letOne x s t = refl
+
+pub termSize-plain : (x : ℕ) (a : Atom) (t : Term) → termSize (letOne x (plain a) t) ≡ 16 + termSize t
+termSize-plain x a t = termSize-letOne x (plain a) t ∙ ap (λ (n : ℕ). 8 + n + termSize t) (size-plain a)
 
 pub termSize-letAll : (s t : Term) → termSize (letAll s t) ≡ 8 + termSize s + termSize t
 unfolding termSize

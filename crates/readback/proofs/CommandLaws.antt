@@ -1,11 +1,8 @@
 -- The commands of a term: for a translation they are the program's, and they come term by term in the order of the bytes.
 use Prim.Native.Nat.{_+_, _-_, _<_, _≤_, ℕ}
 use mathlib.Core.Path.{ap, refl, sym, _∙_, _≡_}
-use mathlib.Core.Bool.{Bool, false, true}
 use mathlib.Core.List.{_++_, List, [], append-assoc, append-nil, _∷_}
 use mathlib.Core.Option.{some}
-use borrow.Author.Tests.{ltb-false, ltb-true}
-use lib.Dec.{ltb}
 use lib.ListN.{length, length-append}
 use native.Mathlib.Omega.{arith}
 use Rattle.buffer.specs.LittleEndian.{val}
@@ -15,16 +12,16 @@ use Rattle.place.specs.Heads.{recordHead}
 use Rattle.place.specs.TermView.{TermAt, simpleKind}
 use Rattle.record.specs.Header.{encodeProgram}
 use Rattle.record.specs.Program.{blockSize, boundFrom, boundKind, boundNumber, encodeBlock, encodeBound, encodeExpr, exprFrom, exprKind, exprNumber}
-use Rattle.record.specs.Term.{atomKind, atomNumber, kindOfTerm, simpleSize}
+use Rattle.record.specs.Term.{atomKind, atomNumber, kindOfTerm}
 use Rattle.rules.specs.FreeVariables.{atomOfSimple}
 use Rattle.rules.specs.ReadBack.{readBack}
-use Rattle.rules.specs.Syntax.{Atom, Block, Bound, Expr, Simple, Term, assign, empty, letAll, letOne, loop, nest, rec, tuple}
+use Rattle.rules.specs.Syntax.{Atom, Block, Bound, Expr, Term, assign, empty, letAll, letOne, loop, nest, rec, tuple}
 use Rattle.rules.specs.Translation.{atomOf, simpleOf, translate}
 use Rattle.place.proofs.EditLaws.{length-lead}
 use Rattle.place.proofs.HeadsLaws.{length-recordHead}
 use Rattle.place.proofs.ProgramBytesLaws.{encodeBlock-assign, encodeBlock-empty, encodeBlock-loop, encodeBlock-nest, encodeLeaf-head}
 use Rattle.place.proofs.SourceKindLaws.{kind-atomOf, kind-simpleOf, number-atomOf, number-simpleOf, kindOfTerm-rec}
-use Rattle.place.proofs.TermBytesLaws.{simple-high, simple-low}
+use Rattle.place.proofs.TermBytesLaws.{simple-least}
 use Rattle.place.proofs.TermViewLaws.{as-letAll, as-letOne, as-rec, as-tuple, term-room}
 use Rattle.record.proofs.HeaderLaws.{length-encodeProgram}
 use Rattle.record.proofs.ProgramLaws.{length-encodeBlock}
@@ -99,13 +96,6 @@ nest-short (tuple ys) n = omega (arith, length-recordHead 1 (4 + n))
 nest-short (letOne x s t) n = omega (arith, length-recordHead 1 (4 + n))
 nest-short (letAll s t) n = omega (arith, length-recordHead 1 (4 + n))
 nest-short (rec x a ys t) n = omega arith
-
-pub simple-least : (s : Simple) → 8 ≤ simpleSize s
-simple-least s = go (ltb (simpleKind s) 34) refl
-  where
-    go : (b : Bool) → ltb (simpleKind s) 34 ≡ b → 8 ≤ simpleSize s
-    go true e = omega (arith, simple-low s (ltb-true (simpleKind s) 34 e))
-    go false e = omega (arith, simple-high s (ltb-false (simpleKind s) 34 e))
 
 -- no more bytes come of a term than it has
 pub command-short : (t : Term) → length (ownCommand t) ≤ ownSize t

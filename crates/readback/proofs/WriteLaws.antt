@@ -22,13 +22,13 @@ use Rattle.buffer.proofs.SliceLaws.{put-nil, put-put}
 use Rattle.buffer.proofs.StoresLaws.{stores-4}
 use Rattle.place.proofs.HeadsLaws.{length-recordHead}
 use Rattle.place.proofs.ProgramRecordLaws.{encodeProgram-head}
-use Rattle.place.proofs.TermBytesLaws.{atomKind-range}
+use Rattle.place.proofs.TermBytesLaws.{atomKind-range, simple-least}
 use Rattle.place.proofs.TermViewLaws.{as-letAll, as-letOne, as-rec, atom-view, simple-kind, term-index, term-room}
 use Rattle.record.proofs.HeaderLaws.{length-encodeProgram}
 use Rattle.record.proofs.PaddedLaws.{written-padded}
 use Rattle.readback.specs.CommandBytes.{commandsOf, commandsOfAll, loopBytes, ownCommand}
 use Rattle.recognition.specs.Scan.{TermsAt, inner, ownSize}
-use Rattle.readback.proofs.CommandLaws.{command-nest, commands-end, commands-one, commands-readBack, commands-step, length-commands, simple-least}
+use Rattle.readback.proofs.CommandLaws.{command-nest, commands-end, commands-one, commands-readBack, commands-step, length-commands}
 use Rattle.recognition.proofs.ScanLaws.{own-letOne, own-rec, terms-end, terms-first, terms-one}
 
 module _ {l : List ℕ} {p k : ℕ} {t : Term} (h : TermAt l p k t) where

@@ -1,6 +1,6 @@
 -- A term's record in its two parts, header and contents, and a buffer that holds it in three.
 use Prim.Native.Nat.{_+_, ℕ}
-use mathlib.Core.Path.{ap, refl, _∙_, _≡_}
+use mathlib.Core.Path.{_≡_}
 use mathlib.Core.List.{_++_, List, append-assoc}
 use lib.ListN.{length, length-append}
 use native.Mathlib.Omega.{arith}

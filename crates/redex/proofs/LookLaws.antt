@@ -7,17 +7,17 @@ use native.Mathlib.Omega.{arith}
 use Rattle.buffer.specs.LittleEndian.{val}
 use Rattle.buffer.specs.Slice.{part}
 use Rattle.place.specs.TermPath.{redex, termPath, terms}
-use Rattle.place.specs.TermView.{TermAt, simpleKind}
+use Rattle.place.specs.TermView.{TermAt}
 use Rattle.record.specs.Header.{contentsAt}
 use Rattle.record.specs.Holding.{TermIn}
-use Rattle.record.specs.Term.{atomKind, atomNumber, simpleSize, termSize}
+use Rattle.record.specs.Term.{atomKind, atomNumber, termSize}
 use Rattle.rules.specs.FreeVariables.{noVars}
 use Rattle.rules.specs.Reduction.{valueOf}
 use Rattle.rules.specs.Sound.{SoundAtom, SoundTerm}
 use Rattle.rules.specs.Store.{fitsWord, minusOne}
-use Rattle.rules.specs.Syntax.{Atom, Simple, Term, letAll, letOne, num, plain, predOf, rec, ref, succOf, tuple}
+use Rattle.rules.specs.Syntax.{Atom, Term, letAll, letOne, num, rec, ref, tuple}
 use Rattle.place.proofs.NestingLaws.{plug-keeps}
-use Rattle.place.proofs.TermBytesLaws.{atomKind-range, kind-num, kind-ref, simple-high, simple-low}
+use Rattle.place.proofs.TermBytesLaws.{atomKind-range, kind-num, kind-ref, simple-least}
 use Rattle.place.proofs.TermPathLaws.{plug-redex, redex-at}
 use Rattle.place.proofs.TermViewLaws.{as-letAll, as-letAtom, as-letOne, as-letPred, as-letSucc, as-rec, as-tuple, simple-kind, term-index, term-same}
 use Rattle.place.proofs.WholeLaws.{term-at}
@@ -41,12 +41,6 @@ unfolding valueOf
 closed-number k a h = sym (ap valueOf (kind-num a (closed-kind k a h)))
 
 -- THE REDEX, by the kinds read
-
-simple-least : (s : Simple) → 8 ≤ simpleSize s
-unfolding simpleKind
-simple-least (plain a) = omega (arith, simple-low (plain a) (omega (arith, atomKind-range a)))
-simple-least (succOf a) = omega (arith, simple-high (succOf a) (omega arith))
-simple-least (predOf a) = omega (arith, simple-high (predOf a) (omega arith))
 
 module _ {l : List ℕ} {at k : ℕ} {t : Term} (h : TermAt l at k t) where
   module _ (one : val (part l (at + 2) 2) ≡ 37) where

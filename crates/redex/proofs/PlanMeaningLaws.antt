@@ -6,14 +6,13 @@ use lib.ListN.{length}
 use native.Mathlib.Omega.{arith}
 use Rattle.place.specs.Nesting.{around, plug}
 use Rattle.place.specs.TermPath.{Redex, redex, redexLetAll, redexLetOne, redexRec, termPath, terms}
-use Rattle.place.specs.TermView.{simpleKind}
 use Rattle.record.specs.Header.{contentsAt, encodeTerm}
 use Rattle.record.specs.Term.{kindOfTerm, termSize}
 use Rattle.rules.specs.Reduction.{reduce, reduceLetOne, unrollRec, valueOf}
 use Rattle.rules.specs.Store.{fitsWord, minusOne}
 use Rattle.rules.specs.Substitution.{fromStore, only, substitute}
 use Rattle.rules.specs.Syntax.{Atom, Simple, Term, letAll, letOne, next, num, plain, predOf, rec, succOf, tuple}
-use Rattle.place.proofs.TermBytesLaws.{atomKind-range, simple-high, simple-low, termSize-letAll, termSize-letOne, termSize-rec, termSize-tuple}
+use Rattle.place.proofs.TermBytesLaws.{size-pred, size-succ, termSize-letAll, termSize-letOne, termSize-plain, termSize-rec, termSize-tuple}
 use Rattle.place.proofs.TermPathLaws.{plug-kind, plug-redex, redex-is, redex-kind, reduce-letAll-tuple, reduce-redex, termSize-plug}
 use Rattle.record.proofs.HeaderLaws.{length-encodeTerm}
 use Rattle.record.proofs.WordsLaws.{termSize-substitute}
@@ -26,30 +25,16 @@ use Rattle.redex.specs.Plan.{planLetOne, planOf, planRec, planRedex}
 abbrev TellsRedex : Term → Plan → Rule → Type 0
 TellsRedex t q r = Tells (reduce fitsWord) termSize t q r
 
--- SIZES of let-ones
-
-size-plain : (x : ℕ) (a : Atom) (t : Term) → termSize (letOne x (plain a) t) ≡ 16 + termSize t
-unfolding simpleKind
-size-plain x a t = omega (arith, termSize-letOne x (plain a) t, simple-low (plain a) (omega (arith, atomKind-range a)))
-
-size-succ : (x : ℕ) (a : Atom) (t : Term) → termSize (letOne x (succOf a) t) ≡ 20 + termSize t
-unfolding simpleKind
-size-succ x a t = omega (arith, termSize-letOne x (succOf a) t, simple-high (succOf a) (omega arith))
-
-size-pred : (x : ℕ) (a : Atom) (t : Term) → termSize (letOne x (predOf a) t) ≡ 20 + termSize t
-unfolding simpleKind
-size-pred x a t = omega (arith, termSize-letOne x (predOf a) t, simple-high (predOf a) (omega arith))
-
 module _ (levels p : ℕ) where
   tells-letOne : (x : ℕ) (s : Simple) (t : Term) → TellsRedex (letOne x s t) (planLetOne levels p x s) ((planLetOne levels p x s) .rule)
   unfolding planLetOne reduce reduceLetOne
   tells-letOne x (plain a) t =
-      (substitute (only x (valueOf a)) t, refl, omega (arith, size-plain x a t, termSize-substitute (only x (valueOf a)) t))
+      (substitute (only x (valueOf a)) t, refl, omega (arith, termSize-plain x a t, termSize-substitute (only x (valueOf a)) t))
   tells-letOne x (succOf a) t =
       tells-raise (reduce fitsWord) termSize (letOne x (succOf a) t) (letOne x (plain (num (suc (valueOf a)))) t) levels p x (suc (valueOf a)) 4 (fitsWord (suc (valueOf a))) refl
-      (omega (arith, size-succ x a t, size-plain x (num (suc (valueOf a))) t))
+      (omega (arith, termSize-letOne x (succOf a) t, size-succ a, termSize-plain x (num (suc (valueOf a))) t))
   tells-letOne x (predOf a) t =
-      (letOne x (plain (num (minusOne (valueOf a)))) t, refl, omega (arith, size-pred x a t, size-plain x (num (minusOne (valueOf a))) t))
+      (letOne x (plain (num (minusOne (valueOf a)))) t, refl, omega (arith, termSize-letOne x (predOf a) t, size-pred a, termSize-plain x (num (minusOne (valueOf a))) t))
 
   tells-rec : (x : ℕ) (a : Atom) (l : List Atom) (t : Term) (v : ℕ) → valueOf a ≡ v
       → TellsRedex (rec x a l t) (planRec levels p x (termSize t) v) ((planRec levels p x (termSize t) v) .rule)
@@ -59,7 +44,7 @@ module _ (levels p : ℕ) where
   tells-rec x a l t (suc q) e = (
     letAll (rec x (num q) l t) (letOne x (plain (num (suc q))) t),
     ap (λ m. next (unrollRec x m l t)) e,
-    omega (arith, termSize-rec x a l t, termSize-letAll (rec x (num q) l t) (letOne x (plain (num (suc q))) t), termSize-rec x (num q) l t, size-plain x (num (suc q)) t),
+    omega (arith, termSize-rec x a l t, termSize-letAll (rec x (num q) l t) (letOne x (plain (num (suc q))) t), termSize-rec x (num q) l t, termSize-plain x (num (suc q)) t),
   )
 
   tells-redex : (t : Term) → Redex t → TellsRedex t (planRedex levels p t) ((planRedex levels p t) .rule)

@@ -33,7 +33,7 @@ use Rattle.rules.proofs.SoundTermLaws.{sound-closed}
 use Rattle.place.proofs.AtLaws.{put-take}
 use Rattle.place.proofs.EditLaws.{length-lead, length-leafBytes, length-removed, removed-behind, removed-cut}
 use Rattle.place.proofs.HeadsLaws.{length-recordHead}
-use Rattle.place.proofs.TermBytesLaws.{termSize-letAll, termSize-letOne, termSize-rec, termSize-tuple}
+use Rattle.place.proofs.TermBytesLaws.{size-plain, termSize-letAll, termSize-letOne, termSize-plain, termSize-rec, termSize-tuple}
 use Rattle.place.proofs.TermEditLaws.{letAll-gone, letOne-gone, letOne-set, rec-stopped, rec-unrolled}
 use Rattle.place.proofs.TermPathLaws.{termSize-plug}
 use Rattle.place.proofs.TermPutLaws.{put-letAll-last, put-letOne-last}
@@ -45,7 +45,7 @@ use Rattle.plan.specs.declared.Plan.{Plan}
 use Rattle.reducing.specs.Perform.{Edited, Performed, PlanFits, Ready, filledAt, numeralAt, stoppedAt, unrolledAt}
 use Rattle.reducing.specs.State.{Stands}
 use Rattle.redex.specs.Plan.{planOf}
-use Rattle.reducing.proofs.PlanLaws.{Planned, planned-redex, plannedBind, plannedEvaluate, plannedFinished, plannedLeave, plannedOver, plannedStop, plannedUnroll, redex-reduces, size-plain, termSize-plain}
+use Rattle.reducing.proofs.PlanLaws.{Planned, planned-redex, plannedBind, plannedEvaluate, plannedFinished, plannedLeave, plannedOver, plannedStop, plannedUnroll, redex-reduces}
 use Rattle.reducing.proofs.StateLaws.{redex-bytes, redex-room, redex-sound, redex-stands, redex-used, stands-after, zeros-behind}
 
 module _ {k : ℕ} {t : Term} {l : List ℕ} {used : ℕ} (h : Stands k t l used) where

@@ -4,38 +4,19 @@ use mathlib.Core.Path.{_≡_, _∙_, ap, refl, sym}
 use mathlib.Core.Bool.{Bool, true, false, cond}
 use mathlib.Core.List.{List, map}
 use lib.ListN.{length}
-use native.Mathlib.Omega.{arith}
 use Rattle.rules.specs.Reduction.{onNext, reduce, reduceLetOne, unrollRec, valueOf}
 use Rattle.rules.specs.Store.{fitsWord}
 use Rattle.rules.specs.Substitution.{fromStore, only, substitute}
 use Rattle.rules.specs.Syntax.{Atom, Simple, Term, letAll, letOne, next, num, over, plain, predOf, rec, succOf, tuple}
 use Rattle.record.specs.Term.{simpleSize, termSize}
-use Rattle.record.proofs.TermLaws.{length-encodeSimple}
 use Rattle.place.specs.Nesting.{plug}
 use Rattle.place.specs.TermPath.{Redex, redex, termPath, terms}
-use Rattle.place.specs.TermView.{simpleKind}
-use Rattle.place.proofs.TermBytesLaws.{encodeSimple-plain, length-encodeAtom, simple-high, termSize-letOne}
+use Rattle.place.proofs.TermBytesLaws.{size-pred, size-succ}
 use Rattle.place.proofs.TermPathLaws.{plug-redex, redex-kind, reduce-letAll-tuple, reduce-plug}
 use Rattle.plan.specs.Plan.{plan, planRaise}
 use Rattle.plan.specs.declared.Plan.{Plan}
 use Rattle.plan.specs.declared.Rule.the-variants.{Bind, Evaluate, Finished, Leave, Over, Stop, Unroll}
 use Rattle.redex.specs.Plan.{planLetOne, planRec, planRedex}
-
--- WHAT A LET-ONE BINDS has 8 bytes where it is an atom, and else 12
-
-pub size-plain : (a : Atom) → simpleSize (plain a) ≡ 8
-size-plain a = sym (length-encodeSimple (plain a)) ∙ ap length (encodeSimple-plain a) ∙ length-encodeAtom a
-
-size-succ : (a : Atom) → simpleSize (succOf a) ≡ 12
-unfolding simpleKind
-size-succ a = simple-high (succOf a) (omega arith)
-
-size-pred : (a : Atom) → simpleSize (predOf a) ≡ 12
-unfolding simpleKind
-size-pred a = simple-high (predOf a) (omega arith)
-
-pub termSize-plain : (x : ℕ) (a : Atom) (t : Term) → termSize (letOne x (plain a) t) ≡ 16 + termSize t
-termSize-plain x a t = termSize-letOne x (plain a) t ∙ ap (λ (n : ℕ). 8 + n + termSize t) (size-plain a)
 
 -- THE PLAN
 
