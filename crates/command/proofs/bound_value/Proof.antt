@@ -1,8 +1,5 @@
 use Rattle.command.proofs.bound_value.Statement.{statement}
 use Rattle.command.proofs.bound_value.Tie as tie
-use Rattle.command.proofs.bound_value.Reads as reads
-use Rattle.command.proofs.bound_value.Lts as lts
-use Rattle.run.proofs.value.value_of.Reads as value-of-reads
 use mathlib.Core.Path.{sym, ap, _∙_}
 use native.Mathlib.Omega.{arith}
 use Rattle.rules.specs.Store.{lookup}

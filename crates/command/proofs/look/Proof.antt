@@ -1,11 +1,5 @@
 use Rattle.command.proofs.look.Statement.{statement}
 use Rattle.command.proofs.look.Tie as tie
-use Rattle.command.proofs.look.Reads as reads
-use Rattle.command.proofs.look.Lts as lts
-use Rattle.buffer.proofs.get_u16.Reads as get-u16-reads
-use Rattle.command.proofs.look_assign.Reads as look-assign-reads
-use Rattle.command.proofs.look_loop.Reads as look-loop-reads
-use Rattle.command.proofs.open_levels.Reads as open-levels-reads
 use mathlib.Core.Path.{_≡_, refl, sym, _∙_, subst}
 use Prim.Native.Nat.{_+_, _*_}
 use native.Mathlib.Omega.{arith}

@@ -1,12 +1,6 @@
 use borrow.Author.Needs.{needs}
 use Rattle.command.proofs.look_assign.Statement.{statement}
 use Rattle.command.proofs.look_assign.Tie as tie
-use Rattle.command.proofs.look_assign.Reads as reads
-use Rattle.command.proofs.look_assign.Lts as lts
-use Rattle.buffer.proofs.get_u16.Reads as get-u16-reads
-use Rattle.buffer.proofs.get_u32.Reads as get-u32-reads
-use Rattle.run.proofs.value.minus_one.Reads as minus-one-reads
-use Rattle.run.proofs.value.value_of.Reads as value-of-reads
 use mathlib.Core.Path.{_≡_, sym, ap, ap₂, _∙_}
 use Prim.Native.Nat.{ℕ, suc}
 use native.Mathlib.Omega.{arith}

@@ -1,10 +1,5 @@
 use Rattle.command.proofs.look_loop.Statement.{statement}
 use Rattle.command.proofs.look_loop.Tie as tie
-use Rattle.command.proofs.look_loop.Reads as reads
-use Rattle.command.proofs.look_loop.Lts as lts
-use Rattle.buffer.proofs.get_u16.Reads as get-u16-reads
-use Rattle.buffer.proofs.get_u32.Reads as get-u32-reads
-use Rattle.command.proofs.bound_value.Reads as bound-value-reads
 use mathlib.Core.Path.{_≡_, sym, ap, ap₂, _∙_}
 use Prim.Native.Nat.{ℕ, _+_, _-_}
 use native.Mathlib.Omega.{arith}

@@ -1,8 +1,5 @@
 use Rattle.command.proofs.open_levels.Statement.{statement}
 use Rattle.command.proofs.open_levels.Tie as tie
-use Rattle.command.proofs.open_levels.Reads as reads
-use Rattle.command.proofs.open_levels.Lts as lts
-use Rattle.command.proofs.opens.Reads as opens-reads
 use mathlib.Core.Path.{_≡_, sym, _∙_}
 use Prim.Native.Nat.{_+_, _-_, _*_, _<_}
 use native.Mathlib.Omega.{arith}

@@ -1,9 +1,6 @@
 use borrow.Author.Needs.{needs}
 use Rattle.command.proofs.opens.Statement.{statement}
 use Rattle.command.proofs.opens.Tie as tie
-use Rattle.command.proofs.opens.Reads as reads
-use Rattle.command.proofs.opens.Lts as lts
-use Rattle.buffer.proofs.get_u16.Reads as get-u16-reads
 use mathlib.Core.Path.{sym, _∙_}
 use Rattle.place.proofs.PathLaws.{opens-kind, opens-test}
 

@@ -1,9 +1,6 @@
 -- It ends: each turn brings the count nearer to a number that no input has.
 use Rattle.lockstep.proofs.count_rest.Statement.{statement}
 use Rattle.lockstep.proofs.count_rest.Tie as tie
-use Rattle.lockstep.proofs.count_rest.Reads as reads
-use Rattle.lockstep.proofs.count_rest.Lts as lts
-use Rattle.io.proofs.read_full.Reads as read-full-reads
 use native.Mathlib.Omega.{arith}
 use mathlib.Core.Path.{_∙_, _≡_, refl}
 use Prim.Native.Nat.{_-_}
@@ -16,43 +13,34 @@ Inv-loop space₀ before total₀ space total = length space ≡ length space₀
 abbrev μ-loop : tie.MeasureT-loop
 μ-loop space₀ before total₀ space total = 9223372036854775807 - total
 
--- src/main.rt:39:5
 loop-holds : tie.Need-loop-holds Inv-loop μ-loop
 loop-holds c = refl
 
--- src/main.rt:40:13
 read-full-requires : tie.Need-read-full-requires Inv-loop μ-loop
 read-full-requires c κs = tt
 
--- src/main.rt:42:13
 same-length : tie.Need-same-length Inv-loop μ-loop
 same-length c =
     c .before .before .before .read-full .kept .1 .0 ∙ c .before .before .before .before .before .before .loop .inv
 
--- src/main.rt:42:13
 returns : tie.Need-returns Inv-loop μ-loop
 returns c = tt
 
--- src/main.rt:44:9
 add-total : tie.Need-add-total Inv-loop μ-loop
 unfolding programBuffer
 add-total c =
     omega (arith, c .before .before .before .read-full .ensures .0, c .before .before .before .read-full .kept .1 .0, c .before .before .before .before .before .before .loop .inv, c .before .before .before .before .before .before .before .before .pre)
 
--- src/main.rt:39:5
 loop-less : tie.Need-loop-less Inv-loop μ-loop
 loop-less c = omega arith
 
--- src/main.rt:39:5
 loop-again : tie.Need-loop-again Inv-loop μ-loop
 loop-again c =
     c .before .before .before .read-full .kept .1 .0 ∙ c .before .before .before .before .before .before .loop .inv
 
--- src/main.rt:35:1
 same-length-2 : tie.Need-same-length-2 Inv-loop μ-loop
 same-length-2 c = c .before .loop .inv
 
--- src/main.rt:35:1
 returns-2 : tie.Need-returns-2 Inv-loop μ-loop
 returns-2 c = tt
 

@@ -2,26 +2,19 @@
 use borrow.Author.Needs.{needs}
 use Rattle.lockstep.proofs.main.Statement.{statement}
 use Rattle.lockstep.proofs.main.Tie as tie
-use Rattle.lockstep.proofs.main.Reads as reads
-use Rattle.lockstep.proofs.main.Lts as lts
-use Rattle.lockstep.proofs.answer.Reads as answer-reads
 use native.Mathlib.Omega.{arith}
 use Rattle.report.specs.Line.{programBuffer}
 
--- src/main.rt:65:12
 slice-aggregate-answer : tie.Need-slice-aggregate-answer
 slice-aggregate-answer c = search needs
 
--- src/main.rt:65:20
 slice-aggregate-answer-2 : tie.Need-slice-aggregate-answer-2
 slice-aggregate-answer-2 c = search needs
 
--- src/main.rt:65:5
 answer-requires : tie.Need-answer-requires
 unfolding programBuffer
 answer-requires c κs = (omega arith, omega arith)
 
--- src/main.rt:62:1
 returns : tie.Need-returns
 returns c = search needs
 

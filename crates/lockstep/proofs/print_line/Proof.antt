@@ -2,44 +2,33 @@
 use borrow.Author.Needs.{needs}
 use Rattle.lockstep.proofs.print_line.Statement.{statement}
 use Rattle.lockstep.proofs.print_line.Tie as tie
-use Rattle.lockstep.proofs.print_line.Reads as reads
-use Rattle.lockstep.proofs.print_line.Lts as lts
-use Rattle.io.proofs.write_all.Reads as write-all-reads
-use Rattle.report.proofs.line.line.Reads as line-reads
 use native.Mathlib.Omega.{arith}
 use mathlib.Core.Path.{sym}
 use lib.Seq.{length-take-le}
 use Rattle.report.specs.Line.{programBuffer}
 
--- src/main.rt:66:9
 line-requires : tie.Need-line-requires
 line-requires c κs = search needs
 
--- src/main.rt:67:34
 slice-reshare-prefix-write-all : tie.Need-slice-reshare-prefix-write-all
 unfolding programBuffer
 slice-reshare-prefix-write-all c =
     omega (arith, c .before .before .before .before .line .ensures .1, c .before .before .before .before .line .kept .1 .0, c .before .before .before .before .before .before .before .before .before .before .pre .1)
 
--- src/main.rt:67:34
 slice-aggregate-write-all : tie.Need-slice-aggregate-write-all
 unfolding programBuffer
 slice-aggregate-write-all c =
     sym (length-take-le (c .before .before .before .before .before .line .result) (c .before .before .before .before .before .line .last .1 .0) (omega (arith, c .before .before .before .before .before .line .ensures .1, c .before .before .before .before .before .line .kept .1 .0, c .before .before .before .before .before .before .before .before .before .before .before .pre .1)))
 
--- src/main.rt:67:5
 write-all-requires : tie.Need-write-all-requires
 write-all-requires c κs = search needs
 
--- src/main.rt:63:1
 same-length : tie.Need-same-length
 same-length c = search needs
 
--- src/main.rt:63:1
 same-length-2 : tie.Need-same-length-2
 same-length-2 c = search needs
 
--- src/main.rt:63:1
 returns : tie.Need-returns
 returns c = search needs
 

@@ -3,85 +3,66 @@ use borrow.Author.Needs.{needs}
 use Rattle.lockstep.proofs.read_record.Statement.{statement}
 use Rattle.lockstep.proofs.read_record.Tie as tie
 use Rattle.lockstep.proofs.read_record.Reads as reads
-use Rattle.lockstep.proofs.read_record.Lts as lts
-use Rattle.buffer.proofs.get_u16.Reads as get-u16-reads
-use Rattle.io.proofs.read_full.Reads as read-full-reads
 use native.Mathlib.Omega.{arith}
 use mathlib.Core.Path.{sym}
 use lib.ListN.{drop, length-append, length-drop}
 use lib.Seq.{length-take-le}
 use Rattle.report.specs.Line.{programBuffer}
 
--- src/main.rt:20:45
 slice-relend-prefix-read-full : tie.Need-slice-relend-prefix-read-full
 unfolding programBuffer
 slice-relend-prefix-read-full c = omega (arith, c .before .pre)
 
--- src/main.rt:20:45
 slice-aggregate-read-full : tie.Need-slice-aggregate-read-full
 unfolding programBuffer
 slice-aggregate-read-full c =
     sym (length-take-le 2 (c .before .before .args .a .now) (omega (arith, c .before .before .pre)))
 
--- src/main.rt:20:9
 read-full-requires : tie.Need-read-full-requires
 read-full-requires c κs = search needs
 
--- src/main.rt:22:9
 same-length : tie.Need-same-length
 same-length c = search needs
 
--- src/main.rt:22:9
 returns : tie.Need-returns
 returns c = search needs
 
--- src/main.rt:24:9
 get-u16-requires : tie.Need-get-u16-requires
 unfolding programBuffer
 get-u16-requires c κs =
     let t = length-take-le 2 (c .before .before .before .before .before .before .before .args .a .now) (omega (arith, c .before .before .before .before .before .before .before .pre)) in
     omega (arith, length-append (c .before .before .before .before .read-full .last .1 .0) (drop 2 (c .before .before .before .before .before .before .before .args .a .now)), length-drop 2 (c .before .before .before .before .before .before .before .args .a .now), c .before .before .before .before .read-full .kept .1 .0, c .before .before .before .before .before .before .before .pre)
 
--- src/main.rt:26:9
 same-length-2 : tie.Need-same-length-2
 same-length-2 c = search needs
 
--- src/main.rt:26:9
 returns-2 : tie.Need-returns-2
 returns-2 c = search needs
 
--- src/main.rt:29:9
 same-length-3 : tie.Need-same-length-3
 same-length-3 c = search needs
 
--- src/main.rt:29:9
 returns-3 : tie.Need-returns-3
 returns-3 c = search needs
 
--- src/main.rt:31:37
 part-read-full-start : tie.Need-part-read-full-start
 part-read-full-start c = search needs
 
--- src/main.rt:31:37
 part-read-full-end : tie.Need-part-read-full-end
 unfolding programBuffer
 part-read-full-end c =
     let t = length-take-le 2 (c .before .before .before .before .before .before .before .before .before .before .args .a .now) (omega (arith, c .before .before .before .before .before .before .before .before .before .before .pre)) in
     omega (arith, length-append (c .before .before .before .before .before .before .before .read-full .last .1 .0) (drop 2 (c .before .before .before .before .before .before .before .before .before .before .args .a .now)), length-drop 2 (c .before .before .before .before .before .before .before .before .before .before .args .a .now), c .before .before .before .before .before .before .before .read-full .kept .1 .0, c .before .before .before .before .before .before .before .before .before .before .pre)
 
--- src/main.rt:31:9
 read-full-requires-2 : tie.Need-read-full-requires-2
 read-full-requires-2 c κs = search needs
 
--- src/main.rt:31:5
 add-result : tie.Need-add-result
 add-result c = search needs
 
--- src/main.rt:16:1
 same-length-4 : tie.Need-same-length-4
 same-length-4 c = search needs
 
--- src/main.rt:16:1
 returns-4 : tie.Need-returns-4
 returns-4 c = search needs
 

@@ -1,8 +1,6 @@
 -- Each division takes one digit off: the turns made and the digits left are one more than the digits of n.
 use Rattle.print.proofs.digits.Statement.{statement}
 use Rattle.print.proofs.digits.Tie as tie
-use Rattle.print.proofs.digits.Reads as reads
-use Rattle.print.proofs.digits.Lts as lts
 use native.Mathlib.Omega.{arith}
 use mathlib.Core.Path.{_≡_}
 use Prim.Native.Nat.{_+_}
@@ -16,23 +14,18 @@ Inv-loop n left₀ count₀ left count = count + length (decimal left) ≡ lengt
 abbrev μ-loop : tie.MeasureT-loop
 μ-loop n left₀ count₀ left count = left
 
--- src/print.rt:18:5
 loop-holds : tie.Need-loop-holds Inv-loop μ-loop
 loop-holds c = omega arith
 
--- src/print.rt:20:9
 add-count : tie.Need-add-count Inv-loop μ-loop
 add-count c = omega (arith, c .before .loop .inv, digits-word (c .before .before .args .n) (omega arith))
 
--- src/print.rt:18:5
 loop-less : tie.Need-loop-less Inv-loop μ-loop
 loop-less c = omega arith
 
--- src/print.rt:18:5
 loop-again : tie.Need-loop-again Inv-loop μ-loop
 loop-again c = omega (arith, c .before .loop .inv, digits-large (c .before .loop .left) (omega arith))
 
--- src/print.rt:13:1
 returns : tie.Need-returns Inv-loop μ-loop
 returns c =
     let s = digits-small (c .before .loop .left) (omega arith) in

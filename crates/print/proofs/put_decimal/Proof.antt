@@ -1,9 +1,6 @@
 -- The digits of what is left of n, put in front of those written, give n's.
 use Rattle.print.proofs.put_decimal.Statement.{statement}
 use Rattle.print.proofs.put_decimal.Tie as tie
-use Rattle.print.proofs.put_decimal.Reads as reads
-use Rattle.print.proofs.put_decimal.Lts as lts
-use Rattle.print.proofs.digits.Reads as digits-reads
 use native.Mathlib.Omega.{arith}
 use mathlib.Core.Path.{_≡_, refl, _∙_}
 use Prim.Native.Nat.{_+_, _<_, _/_}
@@ -21,46 +18,36 @@ Inv-loop out₀ at n end left₀ place₀ out left place =
 abbrev μ-loop : tie.MeasureT-loop
 μ-loop out₀ at n end left₀ place₀ out left place = left
 
--- src/print.rt:30:20
 digits-requires : tie.Need-digits-requires Inv-loop μ-loop
 digits-requires c κs = search needs
 
--- src/print.rt:30:15
 add-end : tie.Need-add-end Inv-loop μ-loop
 add-end c = search needs
 
--- src/print.rt:32:21
 sub-place : tie.Need-sub-place Inv-loop μ-loop
 sub-place c = omega (arith, digits-some (c .before .before .args .n), c .digits .ensures .0)
 
--- src/print.rt:33:5
 loop-holds : tie.Need-loop-holds Inv-loop μ-loop
 loop-holds c =
     let s = digits-some (c .before .before .args .n) in
     (refl, omega arith, omega arith, refl)
 
--- src/print.rt:34:23
 add-out : tie.Need-add-out Inv-loop μ-loop
 add-out c = search needs
 
--- src/print.rt:34:22
 cast-out : tie.Need-cast-out Inv-loop μ-loop
 cast-out c = search needs
 
--- src/print.rt:34:9
 slice-write-out : tie.Need-slice-write-out Inv-loop μ-loop
 slice-write-out c = omega (arith, c .before .loop .inv .0, c .before .loop .inv .1)
 
--- src/print.rt:36:9
 sub-place-2 : tie.Need-sub-place-2 Inv-loop μ-loop
 sub-place-2 c =
     omega (arith, c .before .loop .inv .2, digits-large (c .before .loop .left) (omega arith), digits-some (c .before .loop .left / 10))
 
--- src/print.rt:33:5
 loop-less : tie.Need-loop-less Inv-loop μ-loop
 loop-less c = omega arith
 
--- src/print.rt:33:5
 loop-again : tie.Need-loop-again Inv-loop μ-loop
 loop-again c =
     let k = digits-large (c .before .loop .left) (omega arith) in
@@ -68,23 +55,18 @@ loop-again c =
     let t = digit-turn (c .before .loop .out) (c .before .before .before .before .args .at) (c .before .loop .place) (c .before .loop .left) (omega arith) (c .before .loop .inv .2) (omega (arith, c .before .loop .inv .0, c .before .loop .inv .1)) in
     (simp length-set (c .before .loop .inv .0), omega (arith, c .before .loop .inv .1), omega (arith, c .before .loop .inv .2), t ∙ c .before .loop .inv .3)
 
--- src/print.rt:38:19
 add-out-2 : tie.Need-add-out-2 Inv-loop μ-loop
 add-out-2 c = search needs
 
--- src/print.rt:38:18
 cast-out-2 : tie.Need-cast-out-2 Inv-loop μ-loop
 cast-out-2 c = search needs
 
--- src/print.rt:38:5
 slice-write-out-2 : tie.Need-slice-write-out-2 Inv-loop μ-loop
 slice-write-out-2 c = omega (arith, c .before .loop .inv .0, c .before .loop .inv .1)
 
--- src/print.rt:26:1
 same-length : tie.Need-same-length Inv-loop μ-loop
 same-length c = simp length-set (c .before .loop .inv .0)
 
--- src/print.rt:26:1
 returns : tie.Need-returns Inv-loop μ-loop
 returns c =
     let t = digit-last (c .before .loop .out) (c .before .before .before .before .args .at) (c .before .loop .place) (c .before .loop .left) (omega arith) (c .before .loop .inv .2) (omega (arith, c .before .loop .inv .0, c .before .loop .inv .1)) in

@@ -2,117 +2,89 @@
 use borrow.Author.Needs.{needs}
 use Rattle.print.proofs.put_outcome.Statement.{statement}
 use Rattle.print.proofs.put_outcome.Tie as tie
-use Rattle.print.proofs.put_outcome.Reads as reads
-use Rattle.print.proofs.put_outcome.Lts as lts
-use Rattle.print.proofs.put_word.Reads as put-word-reads
 use native.Mathlib.Omega.{arith}
 use Rattle.print.specs.Words.{outcomeWord}
 
--- src/print.rt:76:39
 enum-told : tie.Need-enum-told
 enum-told c = search needs
 
--- src/print.rt:76:48
 slice-aggregate-put-word : tie.Need-slice-aggregate-put-word
 slice-aggregate-put-word c = search needs
 
--- src/print.rt:76:30
 put-word-requires : tie.Need-put-word-requires
 put-word-requires c κs = search needs
 
--- src/print.rt:77:35
 enum-told-2 : tie.Need-enum-told-2
 enum-told-2 c = search needs
 
--- src/print.rt:77:44
 slice-aggregate-put-word-2 : tie.Need-slice-aggregate-put-word-2
 slice-aggregate-put-word-2 c = search needs
 
--- src/print.rt:77:26
 put-word-requires-2 : tie.Need-put-word-requires-2
 put-word-requires-2 c κs = search needs
 
--- src/print.rt:78:37
 enum-told-3 : tie.Need-enum-told-3
 enum-told-3 c = search needs
 
--- src/print.rt:78:46
 slice-aggregate-put-word-3 : tie.Need-slice-aggregate-put-word-3
 slice-aggregate-put-word-3 c = search needs
 
--- src/print.rt:78:28
 put-word-requires-3 : tie.Need-put-word-requires-3
 put-word-requires-3 c κs = search needs
 
--- src/print.rt:79:36
 enum-told-4 : tie.Need-enum-told-4
 enum-told-4 c = search needs
 
--- src/print.rt:79:45
 slice-aggregate-put-word-4 : tie.Need-slice-aggregate-put-word-4
 slice-aggregate-put-word-4 c = search needs
 
--- src/print.rt:79:27
 put-word-requires-4 : tie.Need-put-word-requires-4
 put-word-requires-4 c κs = search needs
 
--- src/print.rt:80:38
 enum-told-5 : tie.Need-enum-told-5
 enum-told-5 c = search needs
 
--- src/print.rt:80:47
 slice-aggregate-put-word-5 : tie.Need-slice-aggregate-put-word-5
 slice-aggregate-put-word-5 c = search needs
 
--- src/print.rt:80:29
 put-word-requires-5 : tie.Need-put-word-requires-5
 put-word-requires-5 c κs = search needs
 
--- src/print.rt:71:1
 same-length : tie.Need-same-length
 same-length c = search needs
 
--- src/print.rt:71:1
 returns : tie.Need-returns
 unfolding outcomeWord
 returns c =
     rw (c .before .before .before .before .before .enum-told .given .1) (c .before .before .put-word .ensures .0, c .before .before .put-word .ensures .1, omega (arith, c .before .before .put-word .ensures .1))
 
--- src/print.rt:71:1
 same-length-2 : tie.Need-same-length-2
 same-length-2 c = search needs
 
--- src/print.rt:71:1
 returns-2 : tie.Need-returns-2
 unfolding outcomeWord
 returns-2 c =
     rw (c .before .before .before .before .before .enum-told2 .given .1) (c .before .before .put-word2 .ensures .0, c .before .before .put-word2 .ensures .1, omega (arith, c .before .before .put-word2 .ensures .1))
 
--- src/print.rt:71:1
 same-length-3 : tie.Need-same-length-3
 same-length-3 c = search needs
 
--- src/print.rt:71:1
 returns-3 : tie.Need-returns-3
 unfolding outcomeWord
 returns-3 c =
     rw (c .before .before .before .before .before .enum-told3 .given .1) (c .before .before .put-word3 .ensures .0, c .before .before .put-word3 .ensures .1, omega (arith, c .before .before .put-word3 .ensures .1))
 
--- src/print.rt:71:1
 same-length-4 : tie.Need-same-length-4
 same-length-4 c = search needs
 
--- src/print.rt:71:1
 returns-4 : tie.Need-returns-4
 unfolding outcomeWord
 returns-4 c =
     rw (c .before .before .before .before .before .enum-told4 .given .1) (c .before .before .put-word4 .ensures .0, c .before .before .put-word4 .ensures .1, omega (arith, c .before .before .put-word4 .ensures .1))
 
--- src/print.rt:71:1
 same-length-5 : tie.Need-same-length-5
 same-length-5 c = search needs
 
--- src/print.rt:71:1
 returns-5 : tie.Need-returns-5
 unfolding outcomeWord
 returns-5 c =

@@ -2,55 +2,42 @@
 use borrow.Author.Needs.{needs}
 use Rattle.print.proofs.put_ran.Statement.{statement}
 use Rattle.print.proofs.put_ran.Tie as tie
-use Rattle.print.proofs.put_ran.Reads as reads
-use Rattle.print.proofs.put_ran.Lts as lts
-use Rattle.print.proofs.put_run.Reads as put-run-reads
-use Rattle.print.proofs.put_values.Reads as put-values-reads
 use native.Mathlib.Omega.{arith}
 use mathlib.Core.Path.{_∙_}
 use lib.ListN.{length-set}
 use Rattle.print.proofs.PrintLaws.{ran-put}
 use Rattle.run.specs.Represents.{asRunAnswer}
 
--- src/print.rt:112:9
 put-run-requires : tie.Need-put-run-requires
 put-run-requires c κs = search needs
 
--- src/print.rt:113:5
 slice-write-out : tie.Need-slice-write-out
 slice-write-out c = search needs
 
--- src/print.rt:114:31
 add-put-run : tie.Need-add-put-run
 add-put-run c = search needs
 
--- src/print.rt:114:9
 put-run-requires-2 : tie.Need-put-run-requires-2
 put-run-requires-2 c κs =
     simp length-set (omega (arith, c .before .before .before .put-run .kept .0, c .before .before .before .put-run .ensures .2))
 
--- src/print.rt:115:9
 put-values-requires : tie.Need-put-values-requires
 put-values-requires c κs =
     let k = length-set (c .before .before .before .before .before .before .before .put-run .last .0) (c .before .before .before .before .before .before .before .put-run .result) 32 in
     omega (arith, c .before .before .before .before .before .before .before .put-run .kept .0, c .before .before .before .put-run2 .kept .0, c .before .before .before .before .before .before .before .put-run .ensures .2, c .before .before .before .put-run2 .ensures .2)
 
--- src/print.rt:116:5
 slice-write-out-2 : tie.Need-slice-write-out-2
 slice-write-out-2 c =
     let k = length-set (c .before .before .before .before .before .before .before .before .before .before .put-run .last .0) (c .before .before .before .before .before .before .before .before .before .before .put-run .result) 32 in
     omega (arith, c .before .before .before .before .before .before .before .before .before .before .put-run .kept .0, c .before .before .before .before .before .before .put-run2 .kept .0, c .before .before .put-values .kept .0, c .before .before .before .before .before .before .before .before .before .before .put-run .ensures .2, c .before .before .before .before .before .before .put-run2 .ensures .2, c .before .before .put-values .ensures .2)
 
--- src/print.rt:117:5
 add-result : tie.Need-add-result
 add-result c = search needs
 
--- src/print.rt:106:1
 same-length : tie.Need-same-length
 same-length c =
     length-set (c .before .before .put-values .last .0) (c .before .before .put-values .result) 10 ∙ c .before .before .put-values .kept .0 ∙ c .before .before .before .before .before .before .put-run2 .kept .0 ∙ length-set (c .before .before .before .before .before .before .before .before .before .before .put-run .last .0) (c .before .before .before .before .before .before .before .before .before .before .put-run .result) 32 ∙ c .before .before .before .before .before .before .before .before .before .before .put-run .kept .0
 
--- src/print.rt:106:1
 returns : tie.Need-returns
 returns c =
     (ran-put (c .before .before .before .before .before .before .before .before .before .before .before .before .before .before .args .out .now) (c .before .before .before .before .before .before .before .before .before .before .put-run .last .0) (c .before .before .before .before .before .before .put-run2 .last .0) (c .before .before .put-values .last .0) (asRunAnswer (c .before .before .before .before .before .before .before .before .before .before .before .before .before .before .args .stepper)) (asRunAnswer (c .before .before .before .before .before .before .before .before .before .before .before .before .before .before .args .reducer)) (c .before .before .before .before .before .before .before .before .before .before .before .before .before .before .args .store .now) (c .before .before .before .before .before .before .before .before .before .before .put-run .result) (c .before .before .before .before .before .before .put-run2 .result) (c .before .before .put-values .result) (c .before .before .before .before .before .before .before .before .before .before .put-run .ensures .0) (c .before .before .before .before .before .before .before .before .before .before .put-run .ensures .1) (c .before .before .before .before .before .before .put-run2 .ensures .0) (c .before .before .before .before .before .before .put-run2 .ensures .1) (c .before .before .put-values .ensures .0) (c .before .before .put-values .ensures .1) (omega (arith, c .before .before .before .before .before .before .before .before .before .before .put-run .ensures .2, c .before .before .before .before .before .before .put-run2 .ensures .2, c .before .before .put-values .ensures .2)), omega (arith, c .before .before .before .before .before .before .before .before .before .before .put-run .ensures .2, c .before .before .before .before .before .before .put-run2 .ensures .2, c .before .before .put-values .ensures .2))

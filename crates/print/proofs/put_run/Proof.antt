@@ -2,29 +2,21 @@
 use borrow.Author.Needs.{needs}
 use Rattle.print.proofs.put_run.Statement.{statement}
 use Rattle.print.proofs.put_run.Tie as tie
-use Rattle.print.proofs.put_run.Reads as reads
-use Rattle.print.proofs.put_run.Lts as lts
-use Rattle.print.proofs.put_outcome.Reads as put-outcome-reads
-use Rattle.print.proofs.put_spaced.Reads as put-spaced-reads
 use native.Mathlib.Omega.{arith}
 use lib.ListN.{length-append}
 use Rattle.buffer.proofs.StoresLaws.{stores-2}
 use Rattle.print.specs.Words.{outcomeWord, spaced}
 use Rattle.run.specs.Represents.{asOutcome}
 
--- src/print.rt:91:9
 put-outcome-requires : tie.Need-put-outcome-requires
 put-outcome-requires c κs = search needs
 
--- src/print.rt:92:5
 put-spaced-requires : tie.Need-put-spaced-requires
 put-spaced-requires c κs = search needs
 
--- src/print.rt:87:1
 same-length : tie.Need-same-length
 same-length c = search needs
 
--- src/print.rt:87:1
 returns : tie.Need-returns
 returns c =
     let n = length-append (outcomeWord (asOutcome (c .before .before .before .before .before .before .before .before .before .args .o))) (spaced (c .before .before .before .before .before .before .before .before .before .args .n)) in

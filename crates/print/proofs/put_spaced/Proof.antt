@@ -2,31 +2,23 @@
 use borrow.Author.Needs.{needs}
 use Rattle.print.proofs.put_spaced.Statement.{statement}
 use Rattle.print.proofs.put_spaced.Tie as tie
-use Rattle.print.proofs.put_spaced.Reads as reads
-use Rattle.print.proofs.put_spaced.Lts as lts
-use Rattle.print.proofs.put_decimal.Reads as put-decimal-reads
 use native.Mathlib.Omega.{arith}
 use mathlib.Core.Path.{_∙_}
 use lib.ListN.{length-set}
 use Rattle.print.proofs.PrintLaws.{length-spaced, spaced-put}
 
--- src/print.rt:46:5
 slice-write-out : tie.Need-slice-write-out
 slice-write-out c = search needs
 
--- src/print.rt:47:22
 add-put-decimal : tie.Need-add-put-decimal
 add-put-decimal c = search needs
 
--- src/print.rt:47:5
 put-decimal-requires : tie.Need-put-decimal-requires
 put-decimal-requires c κs = simp length-set (omega arith)
 
--- src/print.rt:42:1
 same-length : tie.Need-same-length
 same-length c = c .before .before .put-decimal .kept .0 ∙ simp length-set
 
--- src/print.rt:42:1
 returns : tie.Need-returns
 returns c =
     let n = length-spaced (c .before .before .before .before .before .args .n) in

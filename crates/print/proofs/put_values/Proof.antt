@@ -1,9 +1,6 @@
 -- The values from number i on, put behind those written, give all.
 use Rattle.print.proofs.put_values.Statement.{statement}
 use Rattle.print.proofs.put_values.Tie as tie
-use Rattle.print.proofs.put_values.Reads as reads
-use Rattle.print.proofs.put_values.Lts as lts
-use Rattle.print.proofs.put_spaced.Reads as put-spaced-reads
 use native.Mathlib.Omega.{arith}
 use borrow.Author.Needs.{needs}
 use mathlib.Core.Path.{_≡_, _∙_, ap, refl, sym}
@@ -20,43 +17,34 @@ Inv-loop out₀ at store place₀ i₀ out place i =
 abbrev μ-loop : tie.MeasureT-loop
 μ-loop out₀ at store place₀ i₀ out place i = length store - i
 
--- src/print.rt:56:5
 loop-holds : tie.Need-loop-holds Inv-loop μ-loop
 loop-holds c = (omega arith, refl, omega arith, refl, refl)
 
--- src/print.rt:57:40
 mul-put-spaced : tie.Need-mul-put-spaced Inv-loop μ-loop
 mul-put-spaced c = search needs
 
--- src/print.rt:57:40
 shared-slice-read-put-spaced : tie.Need-shared-slice-read-put-spaced Inv-loop μ-loop
 shared-slice-read-put-spaced c = search needs
 
--- src/print.rt:57:9
 put-spaced-requires : tie.Need-put-spaced-requires Inv-loop μ-loop
 put-spaced-requires c κs =
     omega (arith, c .before .before .before .loop .inv .1, c .before .before .before .loop .inv .2)
 
--- src/print.rt:58:9
 add-i : tie.Need-add-i Inv-loop μ-loop
 add-i c = search needs
 
--- src/print.rt:56:5
 loop-less : tie.Need-loop-less Inv-loop μ-loop
 loop-less c = search needs
 
--- src/print.rt:56:5
 loop-again : tie.Need-loop-again Inv-loop μ-loop
 loop-again c =
     let t = values-turn (c .before .before .before .before .before .before .loop .out) (c .before .before .put-spaced .last .0) (c .before .before .before .before .before .before .before .before .before .args .store .now) (c .before .before .before .before .before .before .loop .place) (c .before .before .put-spaced .result) (c .before .before .before .before .before .before .loop .i) (c .before .before .before .before .before .loop-test .taken) (c .before .before .put-spaced .ensures .0) (c .before .before .put-spaced .ensures .1) (omega (arith, c .before .before .before .before .before .before .loop .inv .1, c .before .before .before .before .before .before .loop .inv .2)) in
     let n = values-length (c .before .before .before .before .before .before .before .before .before .args .store .now) (c .before .before .before .before .before .before .loop .i) (c .before .before .before .before .before .loop-test .taken) in
     (omega arith, c .before .before .put-spaced .kept .0 ∙ c .before .before .before .before .before .before .loop .inv .1, omega (arith, c .before .before .before .before .before .before .loop .inv .2), omega (arith, c .before .before .before .before .before .before .loop .inv .3), t ∙ c .before .before .before .before .before .before .loop .inv .4)
 
--- src/print.rt:50:1
 same-length : tie.Need-same-length Inv-loop μ-loop
 same-length c = c .before .loop .inv .1
 
--- src/print.rt:50:1
 returns : tie.Need-returns Inv-loop μ-loop
 returns c =
     let e : c .before .loop .i ≡ length (c .before .before .before .before .args .store .now) = omega (arith, c .before .loop .inv .0) in

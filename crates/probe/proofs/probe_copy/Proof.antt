@@ -1,40 +1,30 @@
 use borrow.Author.Needs.{needs}
 use Rattle.probe.proofs.probe_copy.Statement.{statement}
 use Rattle.probe.proofs.probe_copy.Tie as tie
-use Rattle.probe.proofs.probe_copy.Reads as reads
-use Rattle.probe.proofs.probe_copy.Lts as lts
-use Rattle.moves.proofs.copy.Reads as copy-reads
-use Rattle.probe.proofs.within.Reads as within-reads
 use mathlib.Core.Path.{sym, _∙_}
+use native.Mathlib.Omega.{arith}
 use Rattle.probe.proofs.ProbeLaws.{le-inside, copied-in, source-out, copied-out}
 
--- src/lib.rt:54:8
 within-requires : tie.Need-within-requires
 within-requires c κs = search needs
 
--- src/lib.rt:55:12
 within-requires-2 : tie.Need-within-requires-2
 within-requires-2 c κs = search needs
 
--- src/lib.rt:56:13
 copy-requires : tie.Need-copy-requires
 copy-requires c κs =
-    (le-inside _ _ _ (sym (c .before .before .before .before .within .ensures) ∙ c .before .before .before .if1 .taken), le-inside _ _ _ (sym (c .before .before .within2 .ensures) ∙ c .before .if2 .taken))
+    (omega (arith, le-inside _ _ _ (sym (c .before .before .before .before .within .ensures) ∙ c .before .before .before .if1 .taken)), omega (arith, le-inside _ _ _ (sym (c .before .before .within2 .ensures) ∙ c .before .if2 .taken)))
 
--- src/lib.rt:50:1
 same-length : tie.Need-same-length
 same-length c = search needs
 
--- src/lib.rt:50:1
 returns : tie.Need-returns
 returns c =
     c .before .before .copy .ensures ∙ copied-in _ _ _ _ _ (sym (c .before .before .before .before .before .before .before .within .ensures) ∙ c .before .before .before .before .before .before .if1 .taken) (sym (c .before .before .before .before .before .within2 .ensures) ∙ c .before .before .before .before .if2 .taken)
 
--- src/lib.rt:50:1
 returns-2 : tie.Need-returns-2
 returns-2 c = copied-out _ _ _ _ _ (sym (c .before .within2 .ensures) ∙ c .if2 .left)
 
--- src/lib.rt:50:1
 returns-3 : tie.Need-returns-3
 returns-3 c = source-out _ _ _ _ _ (sym (c .before .within .ensures) ∙ c .if1 .left)
 

@@ -1,31 +1,23 @@
 use borrow.Author.Needs.{needs}
 use Rattle.probe.proofs.probe_zero.Statement.{statement}
 use Rattle.probe.proofs.probe_zero.Tie as tie
-use Rattle.probe.proofs.probe_zero.Reads as reads
-use Rattle.probe.proofs.probe_zero.Lts as lts
-use Rattle.buffer.proofs.zero.Reads as zero-reads
-use Rattle.probe.proofs.within.Reads as within-reads
 use mathlib.Core.Path.{sym, _∙_}
+use native.Mathlib.Omega.{arith}
 use Rattle.probe.proofs.ProbeLaws.{le-inside, zeroed-in, zeroed-out}
 
--- src/lib.rt:45:8
 within-requires : tie.Need-within-requires
 within-requires c κs = search needs
 
--- src/lib.rt:46:9
 zero-requires : tie.Need-zero-requires
-zero-requires c κs = le-inside _ _ _ (sym (c .before .before .within .ensures) ∙ c .before .if1 .taken)
+zero-requires c κs = omega (arith, le-inside _ _ _ (sym (c .before .before .within .ensures) ∙ c .before .if1 .taken))
 
--- src/lib.rt:41:1
 same-length : tie.Need-same-length
 same-length c = search needs
 
--- src/lib.rt:41:1
 returns : tie.Need-returns
 returns c =
     c .before .before .zero .ensures ∙ zeroed-in _ _ _ (sym (c .before .before .before .before .before .within .ensures) ∙ c .before .before .before .before .if1 .taken)
 
--- src/lib.rt:41:1
 returns-2 : tie.Need-returns-2
 returns-2 c = zeroed-out _ _ _ (sym (c .before .within .ensures) ∙ c .if1 .left)
 

@@ -1,9 +1,6 @@
 use borrow.Author.Needs.{needs}
 use Rattle.redex.proofs.enters.Statement.{statement}
 use Rattle.redex.proofs.enters.Tie as tie
-use Rattle.redex.proofs.enters.Reads as reads
-use Rattle.redex.proofs.enters.Lts as lts
-use Rattle.buffer.proofs.get_u16.Reads as get-u16-reads
 use mathlib.Core.Path.{sym, _∙_}
 use native.Mathlib.Omega.{arith}
 use Rattle.place.proofs.TermPathLaws.{enters-kind, enters-tuple, enters-yes}

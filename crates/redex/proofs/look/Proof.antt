@@ -1,12 +1,6 @@
 use borrow.Author.Needs.{needs}
 use Rattle.redex.proofs.look.Statement.{statement}
 use Rattle.redex.proofs.look.Tie as tie
-use Rattle.redex.proofs.look.Reads as reads
-use Rattle.redex.proofs.look.Lts as lts
-use Rattle.buffer.proofs.get_u16.Reads as get-u16-reads
-use Rattle.redex.proofs.look_let_one.Reads as look-let-one-reads
-use Rattle.redex.proofs.look_rec.Reads as look-rec-reads
-use Rattle.redex.proofs.open_levels.Reads as open-levels-reads
 use mathlib.Core.Path.{sym, _∙_}
 use native.Mathlib.Omega.{arith}
 use Rattle.place.proofs.TermViewLaws.{term-kind, term-room}

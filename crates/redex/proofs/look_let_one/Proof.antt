@@ -1,11 +1,6 @@
 use borrow.Author.Needs.{needs}
 use Rattle.redex.proofs.look_let_one.Statement.{statement}
 use Rattle.redex.proofs.look_let_one.Tie as tie
-use Rattle.redex.proofs.look_let_one.Reads as reads
-use Rattle.redex.proofs.look_let_one.Lts as lts
-use Rattle.buffer.proofs.get_u16.Reads as get-u16-reads
-use Rattle.buffer.proofs.get_u32.Reads as get-u32-reads
-use Rattle.run.proofs.value.minus_one.Reads as minus-one-reads
 use mathlib.Core.Path.{sym, ap, _∙_}
 use Prim.Native.Nat.{ℕ}
 use native.Mathlib.Omega.{arith}

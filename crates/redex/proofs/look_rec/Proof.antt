@@ -1,10 +1,6 @@
 use borrow.Author.Needs.{needs}
 use Rattle.redex.proofs.look_rec.Statement.{statement}
 use Rattle.redex.proofs.look_rec.Tie as tie
-use Rattle.redex.proofs.look_rec.Reads as reads
-use Rattle.redex.proofs.look_rec.Lts as lts
-use Rattle.buffer.proofs.get_u16.Reads as get-u16-reads
-use Rattle.buffer.proofs.get_u32.Reads as get-u32-reads
 use mathlib.Core.Path.{_≡_}
 use Prim.Native.Nat.{_+_, _*_, _-_}
 use native.Mathlib.Omega.{arith}

@@ -1,8 +1,5 @@
 use Rattle.redex.proofs.open_levels.Statement.{statement}
 use Rattle.redex.proofs.open_levels.Tie as tie
-use Rattle.redex.proofs.open_levels.Reads as reads
-use Rattle.redex.proofs.open_levels.Lts as lts
-use Rattle.redex.proofs.enters.Reads as enters-reads
 use mathlib.Core.Path.{_≡_, sym, _∙_}
 use Prim.Native.Nat.{ℕ, _+_, _*_, _-_}
 use native.Mathlib.Omega.{arith}

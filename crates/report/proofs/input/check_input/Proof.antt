@@ -2,11 +2,6 @@
 use borrow.Author.Needs.{needs}
 use Rattle.report.proofs.input.check_input.Statement.{statement}
 use Rattle.report.proofs.input.check_input.Tie as tie
-use Rattle.report.proofs.input.check_input.Reads as reads
-use Rattle.report.proofs.input.check_input.Lts as lts
-use Rattle.buffer.proofs.get_u16.Reads as get-u16-reads
-use Rattle.program_checker.proofs.check_program.Reads as check-program-reads
-use Rattle.report.proofs.input.refused.Reads as refused-reads
 use native.Mathlib.Omega.{arith}
 use mathlib.Core.Path.{_∙_, sym}
 use lib.Seq.{length-take-le}
@@ -15,49 +10,39 @@ use Rattle.report.proofs.InputRowsLaws.{check-refuses, input-accepted, 
 use Rattle.report.specs.Line.{programBuffer}
 use Rattle.buffer.proofs.LittleEndianLaws.{bytes-of}
 
--- src/input.rt:30:9
 refused-requires : tie.Need-refused-requires
 refused-requires c κs = search needs
 
--- src/input.rt:30:9
 returns : tie.Need-returns
 returns c =
     ((λ input h. under-two input (c .before .before .before .args .a .now) (c .before .before .before .args .total) h (asChecked (c .refused .result)) (c .refused .ensures) (c .before .if1 .taken)), not-accepted 2 (asChecked (c .refused .result)) (c .refused .ensures) (λ z. omega arith))
 
--- src/input.rt:32:9
 get-u16-requires : tie.Need-get-u16-requires
 unfolding programBuffer
 get-u16-requires c κs = omega (arith, c .before .before .pre)
 
--- src/input.rt:34:9
 refused-requires-2 : tie.Need-refused-requires-2
 refused-requires-2 c κs = search needs
 
--- src/input.rt:34:9
 returns-2 : tie.Need-returns-2
 returns-2 c =
     ((λ input h. said-long input (c .before .before .before .before .before .args .a .now) (c .before .before .before .before .before .args .total) h (asChecked (c .refused2 .result)) (c .before .before .get-u16 .result) (c .refused2 .ensures) (c .before .before .before .if1 .left) (c .before .before .get-u16 .ensures .0) (c .before .if2 .taken)), not-accepted 1 (asChecked (c .refused2 .result)) (c .refused2 .ensures) (λ z. omega arith))
 
--- src/input.rt:37:9
 refused-requires-3 : tie.Need-refused-requires-3
 refused-requires-3 c κs = search needs
 
--- src/input.rt:37:9
 returns-3 : tie.Need-returns-3
 returns-3 c =
     ((λ input h. said-more input (c .before .before .before .before .before .before .args .a .now) (c .before .before .before .before .before .before .args .total) h (asChecked (c .refused3 .result)) (c .before .before .before .get-u16 .result) (c .refused3 .ensures) (c .before .before .before .before .if1 .left) (c .before .before .before .get-u16 .ensures .0) (c .before .before .if2 .left) (c .before .if3 .taken)), not-accepted 2 (asChecked (c .refused3 .result)) (c .refused3 .ensures) (λ z. omega arith))
 
--- src/input.rt:39:33
 slice-aggregate-check-program : tie.Need-slice-aggregate-check-program
 unfolding programBuffer
 slice-aggregate-check-program c =
     sym (length-take-le (c .before .before .before .get-u16 .result) (c .before .before .before .before .before .before .args .a .now) (omega (arith, c .before .before .before .before .before .before .pre)))
 
--- src/input.rt:39:9
 check-program-requires : tie.Need-check-program-requires
 check-program-requires c κs = search needs
 
--- src/input.rt:41:9
 returns-4 : tie.Need-returns-4
 returns-4 c = (
   (λ input h.
@@ -69,19 +54,15 @@ returns-4 c = (
   λ z. absurd (c .if4 .taken z),
 )
 
--- src/input.rt:43:28
 cast-if5 : tie.Need-cast-if5
 cast-if5 c = search needs
 
--- src/input.rt:43:24
 mul-if5 : tie.Need-mul-if5
 mul-if5 c = search needs
 
--- src/input.rt:44:9
 refused-requires-4 : tie.Need-refused-requires-4
 refused-requires-4 c κs = search needs
 
--- src/input.rt:44:9
 returns-5 : tie.Need-returns-5
 returns-5 c = (
   (λ input h.
@@ -93,7 +74,6 @@ returns-5 c = (
   not-accepted 6 (asChecked (c .refused4 .result)) (c .refused4 .ensures) (λ z. omega arith),
 )
 
--- src/input.rt:25:1
 returns-6 : tie.Need-returns-6
 returns-6 c = (
   (λ input h.

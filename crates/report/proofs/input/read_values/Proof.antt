@@ -1,9 +1,6 @@
 -- After i turns the first i values stand in the store.
 use Rattle.report.proofs.input.read_values.Statement.{statement}
 use Rattle.report.proofs.input.read_values.Tie as tie
-use Rattle.report.proofs.input.read_values.Reads as reads
-use Rattle.report.proofs.input.read_values.Lts as lts
-use Rattle.buffer.proofs.get_u32.Reads as get-u32-reads
 use borrow.Author.Needs.{needs}
 use native.Mathlib.Omega.{arith}
 use mathlib.Core.Path.{_≡_, _∙_, ap, refl}
@@ -19,45 +16,35 @@ Inv-loop bytes store₀ i₀ store i =
 abbrev μ-loop : tie.MeasureT-loop
 μ-loop bytes store₀ i₀ store i = length store₀ - i
 
--- src/input.rt:13:5
 loop-holds : tie.Need-loop-holds Inv-loop μ-loop
 loop-holds c =
     (omega arith, refl, none-read (c .before .before .args .store .now) (c .before .before .args .bytes .now))
 
--- src/input.rt:14:35
 mul-get-u32 : tie.Need-mul-get-u32 Inv-loop μ-loop
 mul-get-u32 c = search needs
 
--- src/input.rt:14:20
 get-u32-requires : tie.Need-get-u32-requires Inv-loop μ-loop
 get-u32-requires c κs = omega (arith, c .before .loop .inv .1)
 
--- src/input.rt:14:9
 mul-store : tie.Need-mul-store Inv-loop μ-loop
 mul-store c = search needs
 
--- src/input.rt:14:9
 slice-write-store : tie.Need-slice-write-store Inv-loop μ-loop
 slice-write-store c = c .before .loop-test .taken
 
--- src/input.rt:15:9
 add-i : tie.Need-add-i Inv-loop μ-loop
 add-i c = search needs
 
--- src/input.rt:13:5
 loop-less : tie.Need-loop-less Inv-loop μ-loop
 loop-less c = omega (arith, c .before .before .loop .inv .1)
 
--- src/input.rt:13:5
 loop-again : tie.Need-loop-again Inv-loop μ-loop
 loop-again c =
     (omega (arith, c .before .before .loop .inv .1), simp length-set (c .before .before .loop .inv .1), value-read (c .before .before .loop .store) (c .before .before .before .before .before .args .bytes .now) (c .before .before .loop .i) (c .get-u32 .result) (c .before .loop-test .taken) (c .get-u32 .ensures) (c .before .before .loop .inv .2))
 
--- src/input.rt:8:1
 same-length : tie.Need-same-length Inv-loop μ-loop
 same-length c = c .before .loop .inv .1
 
--- src/input.rt:8:1
 returns : tie.Need-returns Inv-loop μ-loop
 returns c =
     let e : c .before .loop .i ≡ length (c .before .loop .store) = omega (arith, c .before .loop .inv .0, c .before .loop .inv .1) in

@@ -2,14 +2,6 @@
 use borrow.Author.Needs.{needs}
 use Rattle.report.proofs.line.line.Statement.{statement}
 use Rattle.report.proofs.line.line.Tie as tie
-use Rattle.report.proofs.line.line.Reads as reads
-use Rattle.report.proofs.line.line.Lts as lts
-use Rattle.buffer.proofs.get_u16.Reads as get-u16-reads
-use Rattle.buffer.proofs.zero.Reads as zero-reads
-use Rattle.report.proofs.input.check_input.Reads as check-input-reads
-use Rattle.report.proofs.line.run_both.Reads as run-both-reads
-use Rattle.print.proofs.put_refused.Reads as put-refused-reads
-use Rattle.term.proofs.translate.translate.Reads as translate-reads
 use native.Mathlib.Omega.{arith}
 use mathlib.Core.Path.{_∙_, ap, sym}
 use Prim.Native.Nat.{ℕ}
@@ -21,51 +13,40 @@ use Rattle.term.specs.Answer.{asWrote}
 use Rattle.stepper.specs.RunStepper.{runStepper}
 use Rattle.term.specs.Calls.{substituteCall}
 
--- src/line.rt:49:9
 check-input-requires : tie.Need-check-input-requires
 check-input-requires c κs = c .before .before .before .before .pre .0
 
--- src/line.rt:51:9
 put-refused-requires : tie.Need-put-refused-requires
 unfolding programBuffer
 put-refused-requires c κs = omega (arith, c .before .before .before .before .before .before .before .before .pre .1)
 
--- src/line.rt:51:9
 same-length : tie.Need-same-length
 same-length c = search needs
 
--- src/line.rt:51:9
 same-length-2 : tie.Need-same-length-2
 same-length-2 c = search needs
 
--- src/line.rt:51:9
 returns : tie.Need-returns
 returns c =
     ((λ input h. c .before .before .put-refused .ensures .0 ∙ sym (input-refused input (asChecked (c .before .before .before .before .before .before .check-input .result)) (c .before .before .before .before .before .before .check-input .ensures .0 input (h .lead)) (c .before .before .before .before .if1 .taken))), omega (arith, c .before .before .put-refused .ensures .1))
 
--- src/line.rt:54:27
 cast-if2 : tie.Need-cast-if2
 cast-if2 c = search needs
 
--- src/line.rt:54:23
 mul-if2 : tie.Need-mul-if2
 mul-if2 c = search needs
 
--- src/line.rt:55:9
 put-refused-requires-2 : tie.Need-put-refused-requires-2
 unfolding programBuffer
 put-refused-requires-2 c κs =
     omega (arith, c .before .before .before .before .before .before .before .before .before .before .pre .1)
 
--- src/line.rt:55:9
 same-length-3 : tie.Need-same-length-3
 same-length-3 c = search needs
 
--- src/line.rt:55:9
 same-length-4 : tie.Need-same-length-4
 same-length-4 c = search needs
 
--- src/line.rt:55:9
 returns-2 : tie.Need-returns-2
 returns-2 c = (
   (λ input h.
@@ -74,43 +55,35 @@ returns-2 c = (
   omega (arith, c .before .before .put-refused2 .ensures .1),
 )
 
--- src/line.rt:57:9
 get-u16-requires : tie.Need-get-u16-requires
 unfolding programBuffer
 get-u16-requires c κs =
     omega (arith, c .before .before .before .before .before .before .before .before .before .before .pre .0)
 
--- src/line.rt:58:26
 slice-reshare-prefix-translate : tie.Need-slice-reshare-prefix-translate
 unfolding programBuffer
 slice-reshare-prefix-translate c =
     omega (arith, c .before .before .before .before .before .before .before .before .before .before .before .pre .0, c .get-u16 .ensures .0, c .before .before .before .before .before .before .check-input .ensures .1 (c .before .before .before .before .if1 .left) .0)
 
--- src/line.rt:58:26
 slice-aggregate-translate : tie.Need-slice-aggregate-translate
 unfolding programBuffer
 slice-aggregate-translate c =
     sym (length-take-le (c .before .get-u16 .result) (c .before .before .before .before .before .before .before .before .before .before .before .before .args .a .now) (omega (arith, c .before .before .before .before .before .before .before .before .before .before .before .before .pre .0, c .before .get-u16 .ensures .0, c .before .before .before .before .before .before .before .check-input .ensures .1 (c .before .before .before .before .before .if1 .left) .0)))
 
--- src/line.rt:58:9
 translate-requires : tie.Need-translate-requires
 translate-requires c κs = search needs
 
--- src/line.rt:60:9
 put-refused-requires-3 : tie.Need-put-refused-requires-3
 unfolding programBuffer
 put-refused-requires-3 c κs =
     omega (arith, c .before .before .before .before .before .before .before .before .before .before .before .before .before .before .before .before .before .before .before .pre .1, c .before .before .before .before .before .translate .kept .1 .1 .0)
 
--- src/line.rt:60:9
 same-length-5 : tie.Need-same-length-5
 same-length-5 c = search needs
 
--- src/line.rt:60:9
 same-length-6 : tie.Need-same-length-6
 same-length-6 c = search needs
 
--- src/line.rt:60:9
 returns-3 : tie.Need-returns-3
 returns-3 c = (
   (λ input h.
@@ -119,52 +92,42 @@ returns-3 c = (
   omega (arith, c .before .before .put-refused3 .ensures .1),
 )
 
--- src/line.rt:62:19
 sub-zero : tie.Need-sub-zero
 unfolding programBuffer
 sub-zero c =
     omega (arith, c .before .before .before .before .before .before .before .before .before .before .before .before .before .before .before .before .before .before .before .pre .0, c .before .before .before .before .before .before .before .before .get-u16 .ensures .0, c .before .before .before .before .before .before .before .before .before .before .before .before .before .before .check-input .ensures .1 (c .before .before .before .before .before .before .before .before .before .before .before .before .if1 .left) .0)
 
--- src/line.rt:62:5
 zero-requires : tie.Need-zero-requires
 unfolding programBuffer
 zero-requires c κs =
     omega (arith, c .before .before .before .before .before .before .before .before .before .before .before .before .before .before .before .before .before .before .before .pre .0, c .before .before .before .before .before .before .before .before .get-u16 .ensures .0, c .before .before .before .before .before .before .before .before .before .before .before .before .before .before .check-input .ensures .1 (c .before .before .before .before .before .before .before .before .before .before .before .before .if1 .left) .0)
 
--- src/line.rt:68:9
 cast-run-both : tie.Need-cast-run-both
 cast-run-both c = search needs
 
--- src/line.rt:70:22
 cast-store : tie.Need-cast-store
 cast-store c = search needs
 
--- src/line.rt:70:9
 array-borrow-prefix-store : tie.Need-array-borrow-prefix-store
 array-borrow-prefix-store c =
     c .before .before .before .before .before .before .before .before .before .before .before .before .before .before .before .before .before .before .before .before .before .check-input .ensures .1 (c .before .before .before .before .before .before .before .before .before .before .before .before .before .before .before .before .before .before .before .if1 .left) .1
 
--- src/line.rt:70:9
 slice-aggregate-run-both : tie.Need-slice-aggregate-run-both
 slice-aggregate-run-both c =
     sym (values-made (c .before .before .before .before .before .before .before .before .before .before .before .before .before .before .before .before .before .before .before .before .before .before .check-input .result .k) (c .before .before .before .before .before .before .before .before .before .before .before .before .before .before .before .before .before .before .before .before .before .before .check-input .ensures .1 (c .before .before .before .before .before .before .before .before .before .before .before .before .before .before .before .before .before .before .before .before .if1 .left) .1))
 
--- src/line.rt:64:5
 run-both-requires : tie.Need-run-both-requires
 run-both-requires c κs =
     let l = c .before .before .before .before .before .before .before .before .before .before .before .before .before .before .before .before .before .before .before .before .before .before .check-input .ensures .1 (c .before .before .before .before .before .before .before .before .before .before .before .before .before .before .before .before .before .before .before .before .if1 .left) .1 in
     let m = values-made (c .before .before .before .before .before .before .before .before .before .before .before .before .before .before .before .before .before .before .before .before .before .before .check-input .result .k) l in
     (c .before .before .before .before .before .before .before .before .before .before .before .before .before .translate .kept .1 .1 .0 ∙ c .before .before .before .before .before .before .before .before .before .before .before .before .before .before .before .before .before .before .before .before .before .before .before .before .before .before .before .pre .1, omega (arith, l, m), omega (arith, m, c .before .before .before .before .before .before .before .before .before .before .before .before .before .before .before .before .before .before .if2 .left))
 
--- src/line.rt:45:1
 same-length-7 : tie.Need-same-length-7
 same-length-7 c = search needs
 
--- src/line.rt:45:1
 same-length-8 : tie.Need-same-length-8
 same-length-8 c = search needs
 
--- src/line.rt:45:1
 returns-4 : tie.Need-returns-4
 returns-4 c = (
   (λ input h.

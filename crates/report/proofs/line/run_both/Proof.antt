@@ -2,13 +2,6 @@
 use borrow.Author.Needs.{needs}
 use Rattle.report.proofs.line.run_both.Statement.{statement}
 use Rattle.report.proofs.line.run_both.Tie as tie
-use Rattle.report.proofs.line.run_both.Reads as reads
-use Rattle.report.proofs.line.run_both.Lts as lts
-use Rattle.report.proofs.input.read_values.Reads as read-values-reads
-use Rattle.print.proofs.put_ran.Reads as put-ran-reads
-use Rattle.reducer.proofs.run_reducer.Reads as run-reducer-reads
-use Rattle.stepper.proofs.run_stepper.Reads as run-stepper-reads
-use Rattle.term.proofs.substitute.substitute.Reads as substitute-reads
 use native.Mathlib.Omega.{arith}
 use mathlib.Core.Path.{_∙_}
 use Rattle.report.proofs.LineLaws.{runs-answer}
@@ -17,46 +10,36 @@ use Rattle.term.specs.Answer.{asWrote}
 use Rattle.run.specs.Represents.{asRunAnswer}
 use lib.ListN.{length}
 
--- src/line.rt:38:5
 read-values-requires : tie.Need-read-values-requires
 read-values-requires c κs = search needs
 
--- src/line.rt:39:9
 substitute-requires : tie.Need-substitute-requires
 substitute-requires c κs = search needs
 
--- src/line.rt:40:9
 run-stepper-requires : tie.Need-run-stepper-requires
 run-stepper-requires c κs = search needs
 
--- src/line.rt:41:34
 cast-run-reducer : tie.Need-cast-run-reducer
 cast-run-reducer c = search needs
 
--- src/line.rt:41:9
 run-reducer-requires : tie.Need-run-reducer-requires
 run-reducer-requires c κs = search needs
 
--- src/line.rt:42:5
 put-ran-requires : tie.Need-put-ran-requires
 unfolding programBuffer
 put-ran-requires c κs =
     omega (arith, c .before .before .before .before .before .before .before .before .before .before .before .before .before .before .before .before .before .before .before .before .before .before .before .before .before .before .before .pre .0, c .before .before .before .before .before .before .before .before .before .before .before .before .before .before .before .before .before .before .before .before .before .before .before .before .before .before .before .pre .1, c .before .before .before .before .before .before .before .before .before .before .before .before .before .before .before .before .before .before .before .before .before .read-values .kept .1 .0, c .before .before .before .before .before .before .before .before .before .before .before .before .before .before .before .before .substitute .kept .0, c .before .before .before .before .before .before .before .before .before .before .before .run-stepper .kept .1 .1 .0, c .before .before .before .before .run-reducer .kept .0)
 
--- src/line.rt:27:1
 same-length : tie.Need-same-length
 same-length c = search needs
 
--- src/line.rt:27:1
 same-length-2 : tie.Need-same-length-2
 same-length-2 c = search needs
 
--- src/line.rt:27:1
 same-length-3 : tie.Need-same-length-3
 same-length-3 c =
     c .before .before .before .before .before .before .before .before .before .before .before .before .before .before .run-stepper .kept .1 .1 .0 ∙ c .before .before .before .before .before .before .before .before .before .before .before .before .before .before .before .before .before .before .before .before .before .before .before .before .read-values .kept .1 .0
 
--- src/line.rt:27:1
 returns : tie.Need-returns
 unfolding programBudget
 returns c = (

@@ -8,31 +8,25 @@ use Rattle.buffer.proofs.LittleEndianLaws.{bytes-of}
 use Rattle.record.proofs.CheckedRowLaws.{term-accepted}
 use Rattle.term.proofs.AnsweredLaws.{readBack-checked, readBack-one}
 
--- src/read_back.rt:44:9
 returns : tie.Need-returns
 returns c =
     readBack-one (c .before .before .before .args .src .now) (c .before .before .before .args .used) (c .before .before .before .args .out .now) (c .if1 .taken)
 
--- src/read_back.rt:46:9
 check-term-requires : tie.Need-check-term-requires
 check-term-requires c κs = search needs
 
--- src/read_back.rt:48:9
 returns-2 : tie.Need-returns-2
 returns-2 c =
     readBack-checked (c .before .before .before .before .before .before .args .src .now) (c .before .before .before .before .before .before .args .used) (c .before .before .check-term .result .number) (c .before .before .check-term .result .k) (c .before .before .before .before .before .before .args .out .now) (sym (c .before .before .check-term .ensures)) (c .if2 .taken) (c .before .before .before .if1 .left)
 
--- src/read_back.rt:53:5
 read-back-checked-requires : tie.Need-read-back-checked-requires
 read-back-checked-requires c κs =
     let a = term-accepted (c .before .before .before .before .before .before .before .args .src .now) (c .before .before .before .before .before .before .before .args .used) (c .before .before .before .check-term .result .number) (c .before .before .before .check-term .result .k) (sym (c .before .before .before .check-term .ensures)) (c .before .if2 .left) (bytes-of (c .before .before .before .before .before .before .before .args .src .now) (λ i _. omega (arith, c .before .before .before .before .before .before .shared-slice-known .given i))) in
     (a .1, a .0, c .before .before .before .before .if1 .left)
 
--- src/read_back.rt:40:1
 same-length : tie.Need-same-length
 same-length c = search needs
 
--- src/read_back.rt:40:1
 returns-3 : tie.Need-returns-3
 returns-3 c = search needs
 

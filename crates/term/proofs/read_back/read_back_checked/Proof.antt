@@ -7,42 +7,34 @@ use borrow.Author.Tests.{not-false, not-true}
 use Rattle.rules.specs.ReadBack.{readBack}
 use Rattle.term.proofs.AnsweredLaws.{readBack-nine, readBack-ten, readBack-zero, source-found}
 
--- src/read_back.rt:22:9
 is-translation-requires : tie.Need-is-translation-requires
 is-translation-requires c κs = search needs
 
--- src/read_back.rt:23:9
 returns : tie.Need-returns
 returns c =
     readBack-nine (c .before .before .before .before .pre .0 .1) (c .before .before .before .before .pre .1) (c .before .before .before .before .args .out .now) (c .before .before .before .before .pre .2) (c .before .is-translation .result) (c .before .is-translation .ensures (c .before .before .before .before .pre .0 .0) (c .before .before .before .before .pre .0 .1)) (not-true (c .before .is-translation .result) (c .if1 .taken))
 
--- src/read_back.rt:25:9
 source-size-requires : tie.Need-source-size-requires
 source-size-requires c κs = search needs
 
--- src/read_back.rt:27:9
 returns-2 : tie.Need-returns-2
 returns-2 c =
     let p = source-found (readBack (c .before .before .before .before .before .before .args .k) (c .before .before .before .before .before .before .pre .0 .0)) (c .before .before .before .is-translation .result) (c .before .before .before .is-translation .ensures (c .before .before .before .before .before .before .pre .0 .0) (c .before .before .before .before .before .before .pre .0 .1)) (not-false (c .before .before .before .is-translation .result) (c .before .before .if1 .left)) in
     readBack-ten (c .before .before .before .before .before .before .pre .0 .1) (c .before .before .before .before .before .before .pre .1) (c .before .before .before .before .before .before .args .out .now) (c .before .before .before .before .before .before .pre .2) (p .0) (p .1) (c .before .source-size .result) (c .before .source-size .ensures (c .before .before .before .before .before .before .pre .0 .0) (p .0) (c .before .before .before .before .before .before .pre .0 .1) (p .1)) (c .if2 .taken)
 
--- src/read_back.rt:32:5
 write-source-requires : tie.Need-write-source-requires
 write-source-requires c κs =
     let p = source-found (readBack (c .before .before .before .before .before .before .before .args .k) (c .before .before .before .before .before .before .before .pre .0 .0)) (c .before .before .before .before .is-translation .result) (c .before .before .before .before .is-translation .ensures (c .before .before .before .before .before .before .before .pre .0 .0) (c .before .before .before .before .before .before .before .pre .0 .1)) (not-false (c .before .before .before .before .is-translation .result) (c .before .before .before .if1 .left)) in
     let n = c .before .before .source-size .ensures (c .before .before .before .before .before .before .before .pre .0 .0) (p .0) (c .before .before .before .before .before .before .before .pre .0 .1) (p .1) in
     ((c .before .before .before .before .before .before .before .pre .0 .0, p .0, c .before .before .before .before .before .before .before .pre .0 .1, p .1, omega (arith, n, c .before .if2 .left)), c .before .before .before .before .before .before .before .pre .1)
 
--- src/read_back.rt:35:15
 cast-t12 : tie.Need-cast-t12
 cast-t12 c =
     omega (arith, c .before .before .before .before .before .before .before .before .before .before .pre .2, c .before .before .before .before .if2 .left)
 
--- src/read_back.rt:18:1
 same-length : tie.Need-same-length
 same-length c = search needs
 
--- src/read_back.rt:18:1
 returns-3 : tie.Need-returns-3
 returns-3 c =
     let p = source-found (readBack (c .before .before .before .before .before .before .before .before .before .before .args .k) (c .before .before .before .before .before .before .before .before .before .before .pre .0 .0)) (c .before .before .before .before .before .before .before .is-translation .result) (c .before .before .before .before .before .before .before .is-translation .ensures (c .before .before .before .before .before .before .before .before .before .before .pre .0 .0) (c .before .before .before .before .before .before .before .before .before .before .pre .0 .1)) (not-false (c .before .before .before .before .before .before .before .is-translation .result) (c .before .before .before .before .before .before .if1 .left)) in

@@ -6,42 +6,34 @@ use mathlib.Core.Path.{sym, _∙_}
 use borrow.Author.Tests.{not-false, not-true}
 use Rattle.term.proofs.AnsweredLaws.{numerals-of, result-eight, result-seven, result-six, result-zero}
 
--- src/result.rt:19:9
 returns : tie.Need-returns
 returns c =
     result-six (c .before .before .before .pre .0 .1) (c .before .before .before .pre .1) (c .before .before .before .args .store .now) (c .if1 .taken)
 
--- src/result.rt:21:9
 is-closed-requires : tie.Need-is-closed-requires
 is-closed-requires c κs = search needs
 
--- src/result.rt:22:9
 returns-2 : tie.Need-returns-2
 returns-2 c =
     result-seven (c .before .before .before .before .before .pre .0 .1) (c .before .before .before .before .before .pre .1) (c .before .before .before .before .before .args .store .now) (c .before .before .if1 .left) (sym (c .before .is-closed .ensures (c .before .before .before .before .before .pre .0 .0) (c .before .before .before .before .before .pre .0 .1)) ∙ not-true (c .before .is-closed .result) (c .if2 .taken))
 
--- src/result.rt:24:9
 is-finished-requires : tie.Need-is-finished-requires
 is-finished-requires c κs =
     ((c .before .before .before .before .before .args .k, c .before .before .before .before .before .pre .0), c .before .before .before .before .before .pre .1)
 
--- src/result.rt:25:9
 returns-3 : tie.Need-returns-3
 returns-3 c =
     result-eight (c .before .before .before .before .before .before .before .pre .0 .1) (c .before .before .before .before .before .before .before .pre .1) (c .before .before .before .before .before .before .before .args .store .now) (c .before .before .before .before .if1 .left) (sym (c .before .before .before .is-closed .ensures (c .before .before .before .before .before .before .before .pre .0 .0) (c .before .before .before .before .before .before .before .pre .0 .1)) ∙ not-false (c .before .before .before .is-closed .result) (c .before .before .if2 .left))
     (sym (c .before .is-finished .ensures (c .before .before .before .before .before .before .before .args .k) (c .before .before .before .before .before .before .before .pre .0 .0) (c .before .before .before .before .before .before .before .pre .0 .1)) ∙ not-true (c .before .is-finished .result) (c .if3 .taken))
 
--- src/result.rt:27:5
 copy-numerals-requires : tie.Need-copy-numerals-requires
 copy-numerals-requires c κs =
     let v = numerals-of (c .before .before .before .before .before .before .before .before .pre .0 .1) (sym (c .before .before .before .before .is-closed .ensures (c .before .before .before .before .before .before .before .before .pre .0 .0) (c .before .before .before .before .before .before .before .before .pre .0 .1)) ∙ not-false (c .before .before .before .before .is-closed .result) (c .before .before .before .if2 .left)) (sym (c .before .before .is-finished .ensures (c .before .before .before .before .before .before .before .before .args .k) (c .before .before .before .before .before .before .before .before .pre .0 .0) (c .before .before .before .before .before .before .before .before .pre .0 .1)) ∙ not-false (c .before .before .is-finished .result) (c .before .if3 .left)) in
     (v, c .before .before .before .before .before .before .before .before .pre .1, c .before .before .before .before .before .if1 .left)
 
--- src/result.rt:14:1
 same-length : tie.Need-same-length
 same-length c = search needs
 
--- src/result.rt:14:1
 returns-4 : tie.Need-returns-4
 returns-4 c =
     let v = numerals-of (c .before .before .before .before .before .before .before .before .before .before .before .pre .0 .1) (sym (c .before .before .before .before .before .before .before .is-closed .ensures (c .before .before .before .before .before .before .before .before .before .before .before .pre .0 .0) (c .before .before .before .before .before .before .before .before .before .before .before .pre .0 .1)) ∙ not-false (c .before .before .before .before .before .before .before .is-closed .result) (c .before .before .before .before .before .before .if2 .left)) (sym (c .before .before .before .before .before .is-finished .ensures (c .before .before .before .before .before .before .before .before .before .before .before .args .k) (c .before .before .before .before .before .before .before .before .before .before .before .pre .0 .0) (c .before .before .before .before .before .before .before .before .before .before .before .pre .0 .1)) ∙ not-false (c .before .before .before .before .before .is-finished .result) (c .before .before .before .before .if3 .left)) in

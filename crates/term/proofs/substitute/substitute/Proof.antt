@@ -8,30 +8,24 @@ use Rattle.buffer.proofs.LittleEndianLaws.{bytes-of}
 use Rattle.record.proofs.CheckedRowLaws.{term-accepted}
 use Rattle.term.proofs.AnsweredLaws.{substitute-checked}
 
--- src/substitute.rt:32:9
 check-term-requires : tie.Need-check-term-requires
 check-term-requires c κs = search needs
 
--- src/substitute.rt:34:9
 same-length : tie.Need-same-length
 same-length c = search needs
 
--- src/substitute.rt:34:9
 returns : tie.Need-returns
 returns c =
     substitute-checked (c .before .before .before .before .before .before .args .buf .now) (c .before .before .before .before .before .before .args .used) (c .before .before .check-term .result .number) (c .before .before .check-term .result .k) (c .before .before .before .before .before .before .args .store .now) (sym (c .before .before .check-term .ensures)) (c .if1 .taken)
 
--- src/substitute.rt:39:5
 substitute-checked-requires : tie.Need-substitute-checked-requires
 substitute-checked-requires c κs =
     let a = term-accepted (c .before .before .before .before .before .before .before .args .buf .now) (c .before .before .before .before .before .before .before .args .used) (c .before .before .before .check-term .result .number) (c .before .before .before .check-term .result .k) (sym (c .before .before .before .check-term .ensures)) (c .before .if1 .left) (bytes-of (c .before .before .before .before .before .before .before .args .buf .now) (λ i _. omega (arith, c .before .before .before .before .before .before .slice-known .given i))) in
     (a .1, a .0)
 
--- src/substitute.rt:29:1
 same-length-2 : tie.Need-same-length-2
 same-length-2 c = search needs
 
--- src/substitute.rt:29:1
 returns-2 : tie.Need-returns-2
 returns-2 c = search needs
 

@@ -5,25 +5,20 @@ use Rattle.term.proofs.substitute.substitute_checked.Tie as tie
 use native.Mathlib.Omega.{arith}
 use Rattle.term.proofs.AnsweredLaws.{substitute-six, substitute-zero}
 
--- src/substitute.rt:20:9
 returns : tie.Need-returns
 returns c =
     substitute-six (c .before .before .before .pre .0 .1) (c .before .before .before .pre .1) (c .before .before .before .args .store .now) (c .if1 .taken)
 
--- src/substitute.rt:22:5
 substitute-record-requires : tie.Need-substitute-record-requires
 substitute-record-requires c κs = search needs
 
--- src/substitute.rt:25:15
 cast-t11 : tie.Need-cast-t11
 cast-t11 c =
     omega (arith, c .before .before .before .before .before .before .before .pre .1, c .before .before .before .before .before .before .before .pre .0 .1 .within)
 
--- src/substitute.rt:15:1
 same-length : tie.Need-same-length
 same-length c = search needs
 
--- src/substitute.rt:15:1
 returns-2 : tie.Need-returns-2
 returns-2 c =
     substitute-zero (c .before .before .before .before .before .before .before .pre .0 .1) (c .before .before .before .before .before .before .before .pre .1) (c .before .before .before .before .before .before .before .args .store .now) (c .before .before .before .before .if1 .left) (c .before .before .substitute-record .last .0) (c .before .before .substitute-record .ensures (c .before .before .before .before .before .before .before .pre .0 .0) (c .before .before .before .before .before .before .before .pre .0 .1))

@@ -8,31 +8,25 @@ use Rattle.record.proofs.CheckedRowLaws.{program-accepted}
 use Rattle.term.proofs.AnsweredLaws.{translate-checked, translate-one}
 use native.Mathlib.Omega.{arith}
 
--- src/translate.rt:39:9
 returns : tie.Need-returns
 returns c =
     translate-one (c .before .before .before .args .src .now) (c .before .before .before .args .used) (c .before .before .before .args .out .now) (c .if1 .taken)
 
--- src/translate.rt:41:9
 check-program-requires : tie.Need-check-program-requires
 check-program-requires c κs = search needs
 
--- src/translate.rt:43:9
 returns-2 : tie.Need-returns-2
 returns-2 c =
     translate-checked (c .before .before .before .before .before .before .args .src .now) (c .before .before .before .before .before .before .args .used) (c .before .before .check-program .result .number) (c .before .before .check-program .result .k) (c .before .before .before .before .before .before .args .out .now) (sym (c .before .before .check-program .ensures)) (c .if2 .taken) (c .before .before .before .if1 .left)
 
--- src/translate.rt:48:5
 translate-checked-requires : tie.Need-translate-checked-requires
 translate-checked-requires c κs =
     let a = program-accepted (c .before .before .before .before .before .before .before .args .src .now) (c .before .before .before .before .before .before .before .args .used) (c .before .before .before .check-program .result .number) (c .before .before .before .check-program .result .k) (sym (c .before .before .before .check-program .ensures)) (c .before .if2 .left) (bytes-of (c .before .before .before .before .before .before .before .args .src .now) (λ i _. omega (arith, c .before .before .before .before .before .before .shared-slice-known .given i))) in
     (a .1, a .0, c .before .before .before .before .if1 .left)
 
--- src/translate.rt:35:1
 same-length : tie.Need-same-length
 same-length c = search needs
 
--- src/translate.rt:35:1
 returns-3 : tie.Need-returns-3
 returns-3 c = search needs
 

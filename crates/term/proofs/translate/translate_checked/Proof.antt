@@ -5,31 +5,25 @@ use Rattle.term.proofs.translate.translate_checked.Tie as tie
 use native.Mathlib.Omega.{arith}
 use Rattle.term.proofs.AnsweredLaws.{translate-ten, translate-zero}
 
--- src/translate.rt:20:9
 translation-size-requires : tie.Need-translation-size-requires
 translation-size-requires c κs = search needs
 
--- src/translate.rt:22:9
 returns : tie.Need-returns
 returns c =
     translate-ten (c .before .before .before .before .pre .0 .1) (c .before .before .before .before .pre .1) (c .before .before .before .before .args .out .now) (c .before .before .before .before .pre .2) (c .before .translation-size .result) (c .before .translation-size .ensures (c .before .before .before .before .pre .0 .0) (c .before .before .before .before .pre .0 .1)) (c .if1 .taken)
 
--- src/translate.rt:27:5
 write-translation-requires : tie.Need-write-translation-requires
 write-translation-requires c κs =
     let e = c .before .before .translation-size .ensures (c .before .before .before .before .before .pre .0 .0) (c .before .before .before .before .before .pre .0 .1) in
     ((c .before .before .before .before .before .pre .0 .0, c .before .before .before .before .before .pre .0 .1, omega (arith, e, c .before .if1 .left)), c .before .before .before .before .before .pre .1)
 
--- src/translate.rt:30:15
 cast-t11 : tie.Need-cast-t11
 cast-t11 c =
     omega (arith, c .before .before .before .before .before .before .before .before .pre .2, c .before .before .before .before .if1 .left)
 
--- src/translate.rt:16:1
 same-length : tie.Need-same-length
 same-length c = search needs
 
--- src/translate.rt:16:1
 returns-2 : tie.Need-returns-2
 returns-2 c =
     translate-zero (c .before .before .before .before .before .before .before .before .pre .0 .1) (c .before .before .before .before .before .before .before .before .pre .1) (c .before .before .before .before .before .before .before .before .args .out .now) (c .before .before .before .before .before .before .before .before .pre .2) (c .before .before .before .before .before .translation-size .result) (c .before .before .before .before .before .translation-size .ensures (c .before .before .before .before .before .before .before .before .pre .0 .0) (c .before .before .before .before .before .before .before .before .pre .0 .1)) (c .before .before .before .before .if1 .left)
