@@ -7,22 +7,17 @@ use native.Mathlib.Omega.{arith}
 use Rattle.buffer.specs.LittleEndian.{le}
 use Rattle.rules.specs.FreeVariables.{Vars}
 use Rattle.rules.specs.Syntax.{Term}
-use Rattle.record.specs.Header.{encodeTerm, headed}
 use Rattle.record.specs.Holding.{TermIn}
 use Rattle.record.specs.Term.{encodeTermRecord, termSize}
 use Rattle.buffer.proofs.LittleEndianLaws.{length-le}
-use Rattle.record.proofs.HeaderLaws.{length-encodeTerm, length-encodeTermRecord}
+use Rattle.record.proofs.HeaderLaws.{length-encodeTerm}
 use Rattle.record.proofs.HoldingLaws.{term-size, term-words}
 use Rattle.place.specs.At.{At}
 use Rattle.place.specs.Heads.{recordHead}
 use Rattle.place.specs.TermView.{TermAt}
 use Rattle.place.proofs.AtLaws.{at-part}
-use Rattle.place.proofs.HeadsLaws.{encodeRecord-head, length-recordHead}
-
-encodeTerm-head : (k : ℕ) (t : Term) → encodeTerm k t ≡ recordHead 40 (12 + termSize t) ++ (le 4 k ++ encodeTermRecord t)
-unfolding encodeTerm headed encodeTermRecord
-encodeTerm-head k t =
-    encodeRecord-head 40 (12 + termSize t) (le 4 k ++ encodeTermRecord t) (simp (length-append, length-le, length-encodeTermRecord) (omega arith))
+use Rattle.place.proofs.HeadsLaws.{length-recordHead}
+use Rattle.place.proofs.RecordPlaceLaws.{encodeTerm-head}
 
 module _ {S : Vars} {k : ℕ} {t : Term} {buf : List ℕ} {used : ℕ} (h : TermIn S k t buf used) where
   pub held-end : 8 + (4 + termSize t) ≡ used

@@ -1,7 +1,7 @@
 -- A term is a translation exactly where every term met in it is legal; and what is legal, by the kind read.
 use Prim.Native.Nat.{_+_, _<_, _≤_, ℕ}
 use mathlib.Core.Path.{ap, refl, sym, _∙_, _≡_}
-use mathlib.Core.Bool.{_&&_, Bool, cond, false, not, true}
+use mathlib.Core.Bool.{Bool, _&&_, and-assoc, and-false, and-true, cond, false, not, true}
 use mathlib.Core.List.{_++_, List, [], _∷_}
 use mathlib.Core.Option.{none, some}
 use borrow.Author.Tests.{eqb-false, eqb-true}
@@ -25,18 +25,6 @@ use Rattle.record.proofs.RowLaws.{isNone-none, isNone-some}
 use Rattle.recognition.specs.Recognition.{accepts, hasExpr, isLetAll, isRef, legal, recognised}
 use Rattle.recognition.specs.Scan.{TermsAt, inner, ownSize}
 use Rattle.recognition.proofs.ScanLaws.{terms-end, terms-first, terms-one}
-
-and-assoc : (a b c : Bool) → ((a && b) && c) ≡ (a && (b && c))
-and-assoc true b c = refl
-and-assoc false b c = refl
-
-and-false : (a : Bool) → (a && false) ≡ false
-and-false true = refl
-and-false false = refl
-
-and-true : (a : Bool) → (a && true) ≡ a
-and-true true = refl
-and-true false = refl
 
 -- THE SOURCE OF A TERM, by the sources of the terms inside it
 

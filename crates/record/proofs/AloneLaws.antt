@@ -1,5 +1,5 @@
 -- What stands at the front of a list of bytes, by the numbers read there: two bytes of length, two of kind.
-use Prim.Native.Nat.{_+_, _-_, _<_, suc, zero, ℕ, _≤_}
+use Prim.Native.Nat.{_+_, _-_, _<_, ℕ, _≤_}
 use mathlib.Core.Path.{_≡_, ap, ap₂, refl, sym, _∙_}
 use mathlib.Core.Bool.{_&&_, Bool, false, true}
 use mathlib.Core.List.{List, [], _∷_}
@@ -7,8 +7,7 @@ use mathlib.Core.Option.{Option, none, some}
 use borrow.Author.Tests.{le-leb, leb-true}
 use lib.Dec.{leb}
 use lib.ListN.{drop, length, length-drop, take}
-use lib.Seq.{drop-drop, drop-length, length-take-le, take-all, take-nil, take-take}
-use native.Mathlib.Nat.{sub-zero, suc-sub-suc, zero-sub}
+use lib.Seq.{drop-drop, drop-length, length-take-le, take-all, take-take}
 use native.Mathlib.Omega.{arith}
 use Rattle.buffer.specs.LittleEndian.{val}
 use Rattle.buffer.specs.Slice.{part as slice}
@@ -16,14 +15,9 @@ use Rattle.rules.proofs.Tests.{and-both}
 use Rattle.record.specs.Alone.{kindAlone, recordKind}
 use Rattle.record.specs.Reading.{bind, fail, fromSome, got, then, word}
 use Rattle.record.specs.Record.{Split, bad, cut, end, part, split}
+use Rattle.record.proofs.BetweenLaws.{drop-take}
 
 -- LISTS
-
-pub drop-take : (n m : ℕ) (l : List ℕ) → drop n (take m l) ≡ take (m - n) (drop n l)
-drop-take zero m l = rw sub-zero refl
-drop-take (suc n) zero l = rw zero-sub refl
-drop-take (suc n) (suc m) [] = rw take-nil refl
-drop-take (suc n) (suc m) (x ∷ l) = drop-take n m l ∙ rw suc-sub-suc refl
 
 -- what follows the first n, as a part of the list
 pub take-rest : (n : ℕ) (l : List ℕ) → take (length l - n) (drop n l) ≡ drop n l
@@ -35,10 +29,6 @@ unfolding slice
 slice-take m at w l h = rw (drop-take at m l) (take-take w (m - at) (drop at l) (omega arith))
 
 -- OPTIONS
-
-pub none-unless : {A : Type 0} (o : Option A) → ((a : A) → o ≡ some a → ⊥) → o ≡ none
-none-unless none h = refl
-none-unless (some a) h = absurd (h a refl)
 
 module _ {A B : Type 0} where
   pub bind-none : (o : Option A) (f : A → Option B) → o ≡ none → bind o f ≡ none

@@ -2,8 +2,8 @@
 -- behind decide.
 use Prim.Native.Nat.{ℕ, _≤_}
 use mathlib.Core.Path.{ap, refl, sym, _∙_, _≡_}
-use mathlib.Core.Bool.{Bool, false, true}
-use mathlib.Core.List.{_++_, List, [], _∷_}
+use mathlib.Core.Bool.{Bool, true}
+use mathlib.Core.List.{List, _∷_}
 use lib.ListN.{length}
 use native.Mathlib.Omega.{arith}
 use Rattle.buffer.specs.LittleEndian.{Bytes}
@@ -13,27 +13,11 @@ use Rattle.rules.specs.Syntax.{Block, Term}
 use Rattle.rules.proofs.SoundTermLaws.{sound-inRange}
 use Rattle.record.specs.Answers.{Checked, checkProgram, checkProgramRows, checkTerm, checkTermRows}
 use Rattle.record.specs.Holding.{ProgramIn, TermIn}
-use Rattle.record.specs.Rows.{NoRow, Row, badBuffer, firstRow, pickRow, programRows, row, termRows}
+use Rattle.record.specs.Rows.{Row, badBuffer, firstRow, programRows, row, termRows}
 use Rattle.record.proofs.AnswerLaws.{check-program-number, check-term-number}
 use Rattle.record.proofs.HoldingLaws.{check-program, check-term}
-use Rattle.record.proofs.RowLaws.{first-none, first-skips}
+use Rattle.record.proofs.RowLaws.{first-before, first-behind, first-none}
 use Rattle.record.proofs.WordsLaws.{sound-words, words-sound}
-
--- ROWS BEHIND OTHERS
-
-pub first-before : (rs more : List Row) → (firstRow rs ≡ 0 → ⊥) → firstRow (rs ++ more) ≡ firstRow rs
-unfolding firstRow pickRow
-first-before [] more h = absurd (h refl)
-first-before (r ∷ rs) more h = go (r .applies) (first-before rs more) h
-  where
-    go : (b : Bool) → ((firstRow rs ≡ 0 → ⊥) → firstRow (rs ++ more) ≡ firstRow rs) → (pickRow b (r .number) (firstRow rs) ≡ 0 → ⊥)
-        → pickRow b (r .number) (firstRow (rs ++ more)) ≡ pickRow b (r .number) (firstRow rs)
-    go true ih h = refl
-    go false ih h = ih h
-
-pub first-behind : (rs more : List Row) → NoRow rs → firstRow (rs ++ more) ≡ firstRow more
-first-behind [] more h = refl
-first-behind (r ∷ rs) more h = first-skips (r .number) (r .applies) (rs ++ more) (h .0) ∙ first-behind rs more (h .1)
 
 -- BEHIND A PROGRAM'S CHECK, by what the checker answers. `one` is row 1 of the call, which may look at an output
 -- buffer as well (`or-right`).

@@ -3,7 +3,7 @@ use Prim.Native.Nat.{_<_, ℕ, _≤_}
 use mathlib.Core.Path.{_≡_, ap, refl, sym, _∙_}
 use mathlib.Core.Logic.{inl, inr, _⊎_}
 use mathlib.Core.Bool.{Bool, false, not, true}
-use mathlib.Core.List.{_++_, List, [], _∷_}
+use mathlib.Core.List.{List, [], _∷_}
 use mathlib.Core.Option.{Option, none, some}
 use lib.ListN.{length, take}
 use native.Mathlib.Omega.{arith}
@@ -19,24 +19,8 @@ use Rattle.record.proofs.AnswerLaws.{checked-refused}
 use Rattle.record.proofs.BetweenLaws.{between, drop-take}
 use Rattle.record.proofs.HeldLaws.{buffer-good, good-buffer, good-header, header-good, k-good}
 use Rattle.record.proofs.LeafLaws.{part-take}
-use Rattle.record.proofs.RowLaws.{first-applies, first-none, first-skips}
+use Rattle.record.proofs.RowLaws.{first-applies, first-before, first-behind, first-none, first-skips}
 use Rattle.record.proofs.RowMeaningLaws.{rows-mean}
-
--- A LIST OF ROWS AND MORE ROWS
-
-first-before : (rs more : List Row) → (firstRow rs ≡ 0 → ⊥) → firstRow (rs ++ more) ≡ firstRow rs
-unfolding firstRow pickRow
-first-before [] more h = absurd (h refl)
-first-before (r ∷ rs) more h = go (r .applies) h (first-before rs more)
-  where
-    go : (b : Bool) → (pickRow b (r .number) (firstRow rs) ≡ 0 → ⊥) → ((firstRow rs ≡ 0 → ⊥) → firstRow (rs ++ more) ≡ firstRow rs)
-        → pickRow b (r .number) (firstRow (rs ++ more)) ≡ pickRow b (r .number) (firstRow rs)
-    go true h ih = refl
-    go false h ih = ih h
-
-first-after : (rs more : List Row) → NoRow rs → firstRow (rs ++ more) ≡ firstRow more
-first-after [] more h = refl
-first-after (r ∷ rs) more h = first-skips (r .number) (r .applies) (rs ++ more) (h .0) ∙ first-after rs more (h .1)
 
 -- THE FIELDS OF THE HEADER
 
@@ -130,7 +114,7 @@ module _ (kind : ℕ) (buf : List ℕ) (used : ℕ) (more : List Row) where
 
   -- or what the record holds
   rows-after : headerRow kind buf used ≡ 0 → firstRow (headerRows kind buf used more) ≡ firstRow more
-  rows-after e = first-after (headerRows kind buf used []) more (header-pass kind buf used e)
+  rows-after e = first-behind (headerRows kind buf used []) more (header-pass kind buf used e)
 
 module _ (buf : List ℕ) (used : ℕ) where
   pub check-program-header : (headerRow 7 buf used ≡ 0 → ⊥) → checkProgram buf used ≡ checkedBy (headerRow 7 buf used) 0

@@ -3,7 +3,7 @@ use Prim.Native.Nat.{ℕ, _≤_}
 use mathlib.Core.Path.{refl, _∙_, _≡_}
 use mathlib.Core.Logic.{inl, inr}
 use mathlib.Core.Bool.{_&&_, Bool, false, not, true, _||_}
-use mathlib.Core.List.{List, [], _∷_}
+use mathlib.Core.List.{_++_, List, [], _∷_}
 use mathlib.Core.Option.{Option, none, some}
 use borrow.Author.Tests.{leb-true}
 use lib.Dec.{leb}
@@ -25,6 +25,21 @@ first-applies n b more e = rw e refl
 pub first-skips : (n : ℕ) (b : Bool) (more : List Row) → b ≡ false → firstRow (row n b ∷ more) ≡ firstRow more
 unfolding firstRow pickRow
 first-skips n b more e = rw e refl
+
+-- a list of rows and more rows
+pub first-before : (rs more : List Row) → (firstRow rs ≡ 0 → ⊥) → firstRow (rs ++ more) ≡ firstRow rs
+unfolding firstRow pickRow
+first-before [] more h = absurd (h refl)
+first-before (r ∷ rs) more h = go (r .applies) (first-before rs more) h
+  where
+    go : (b : Bool) → ((firstRow rs ≡ 0 → ⊥) → firstRow (rs ++ more) ≡ firstRow rs) → (pickRow b (r .number) (firstRow rs) ≡ 0 → ⊥)
+        → pickRow b (r .number) (firstRow (rs ++ more)) ≡ pickRow b (r .number) (firstRow rs)
+    go true ih h = refl
+    go false ih h = ih h
+
+pub first-behind : (rs more : List Row) → NoRow rs → firstRow (rs ++ more) ≡ firstRow more
+first-behind [] more h = refl
+first-behind (r ∷ rs) more h = first-skips (r .number) (r .applies) (rs ++ more) (h .0) ∙ first-behind rs more (h .1)
 
 pub none-first : (rs : List Row) → NoRow rs → firstRow rs ≡ 0
 unfolding firstRow

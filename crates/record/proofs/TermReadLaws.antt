@@ -17,10 +17,11 @@ use Rattle.record.specs.Header.{termIn}
 use Rattle.record.specs.Reading.{Got, anyRecord, anyRecordOf, atEnd, bind, fail, fromSome, got, leaf, leafOf, ofKind, pick, sub, subOf, then, word}
 use Rattle.record.specs.Record.{Split, bad, end, part, split}
 use Rattle.record.specs.Term.{SimpleKind, TermKind, atomFrom, atomKind, atomNumber, decodeAtoms, decodeTerm, decodeTermKind, decodeTermStep, isAtom, isLetAll, isLetOne, isPred, isRec, isSucc, isTuple, lastTerm, notTerm, onlyAtom, plainOf, readAtom, readSimple, same, simpleBy, simpleFrom, simpleKindIf, termKind, termKindIf}
-use Rattle.record.proofs.AloneLaws.{NoPart, bind-cong, bind-none, none-unless, recordKind-split, slice-take, split-alone, split-front, split-none, split-record, then-fromSome, word-read, word-short}
+use Rattle.record.proofs.AloneLaws.{NoPart, bind-cong, bind-none, recordKind-split, slice-take, split-alone, split-front, split-none, split-record, then-fromSome, word-read, word-short}
 use Rattle.record.proofs.ReadingLaws.{atEnd-inv, bind-inv, leaf-length, leaf-parts, sub-part, then-inv, word-length}
 use Rattle.record.proofs.RecordLaws.{split-length}
 use Rattle.record.proofs.TermLaws.{atomFrom-inv, decodeTerm-step}
+use Rattle.record.proofs.FrontLaws.{none-unless}
 
 -- what was found alone is what was found
 alone : {A : Type 0} (o : Option A) → then (fromSome o []) (λ a r. atEnd r (some a)) ≡ o

@@ -14,17 +14,13 @@ use Rattle.record.proofs.HoldingLaws.{term-open}
 use Rattle.record.proofs.RowLaws.{first-applies}
 use Rattle.rules.specs.FreeVariables.{allVars, closed}
 use Rattle.rules.specs.Syntax.{Term}
-use Rattle.rules.proofs.Tests.{true-false}
 use Rattle.run.specs.declared.RunEnd.{RunEnd}
 use Rattle.run.specs.Represents.{asRunAnswer}
 use Rattle.run.specs.RunAnswer.{refusal}
 use Rattle.reducer.specs.RunReducer.{ReducerCall, reducerRows, runReducer}
 use Rattle.reducer.specs.Running.{Accepted, Gives, acceptedRun}
 use Rattle.reducer.proofs.RunReducerLaws.{reducer-is, reducer-refused}
-
-not-false : (b : Bool) → not b ≡ false → b ≡ true
-not-false true e = refl
-not-false false e = absurd (true-false e)
+use borrow.Author.Tests.{not-false}
 
 -- A REFUSAL is by the first row that applies, and nothing has changed
 

@@ -8,8 +8,8 @@ use lib.ListN.{drop, length, set, take}
 use lib.Seq.{drop-drop, take-all, take-suc-set, take-take}
 use Rattle.buffer.specs.LittleEndian.{val}
 use Rattle.buffer.specs.Slice.{part}
-use Rattle.record.proofs.AloneLaws.{drop-take}
 use Rattle.report.specs.Line.{valuesIn}
+use Rattle.record.proofs.BetweenLaws.{drop-take}
 
 value-next : (i : ℕ) (bytes : List ℕ) → part (drop 4 bytes) (4 * i) 4 ≡ part bytes (4 * suc i) 4
 unfolding part

@@ -15,10 +15,10 @@ use Rattle.record.specs.Answers.{Checked, checkProgram, checkProgramRows, check
 use Rattle.record.specs.Holding.{ProgramIn}
 use Rattle.record.specs.Rows.{NoRow, Row, badBlock, badBuffer, badHeader, badK, blockOutside, firstRow, programRows, row}
 use Rattle.record.proofs.AnswerLaws.{check-program-number, check-program-refused, checked-accepted, checked-refused}
-use Rattle.record.proofs.CheckedRowLaws.{first-before, program-accepted}
+use Rattle.record.proofs.CheckedRowLaws.{program-accepted}
 use Rattle.record.proofs.HeldLaws.{buffer-good}
 use Rattle.record.proofs.HoldingLaws.{check-program, program-k}
-use Rattle.record.proofs.RowLaws.{first-applies, first-none, first-skips, none-first}
+use Rattle.record.proofs.RowLaws.{first-applies, first-before, first-none, first-skips, none-first}
 use Rattle.rules.specs.Syntax.{Block}
 use Rattle.report.specs.Line.{inputRows, kOfInput, recordOf, saidLength}
 use Rattle.report.specs.Reads.{RecordRead, WholeRecord}

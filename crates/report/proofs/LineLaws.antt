@@ -15,9 +15,8 @@ use Rattle.record.specs.Answers.{Checked, Wrote, checkProgramRows, padded}
 use Rattle.record.specs.Rows.{NoRow, badBlock, badBuffer, badHeader, badK, blockOutside, firstRow, row, tooLong}
 use Rattle.record.proofs.AnswerLaws.{checked-accepted, checked-number, wrote-accepted}
 use Rattle.record.proofs.PaddedLaws.{padded-zeros}
-use Rattle.record.proofs.CheckedRowLaws.{first-before}
 use Rattle.record.proofs.HeldLaws.{good-header, good-k, not-long}
-use Rattle.record.proofs.RowLaws.{first-none, first-skips, or-intro}
+use Rattle.record.proofs.RowLaws.{first-before, first-none, first-skips, or-intro}
 use Rattle.reducer.specs.RunReducer.{runReducer}
 use Rattle.run.specs.RunAnswer.{RunAnswer}
 use Rattle.stepper.specs.RunStepper.{runStepper}

@@ -16,10 +16,10 @@ use Rattle.rules.specs.Reduction.{valueOf}
 use Rattle.rules.specs.Substitution.{fromStore, substitute}
 use Rattle.rules.specs.Syntax.{Block, Term, num, tuple}
 use Rattle.rules.specs.Translation.{translate}
-use Rattle.record.proofs.CheckedRowLaws.{closed-term, first-behind, program-refuses, term-refuses}
+use Rattle.record.proofs.CheckedRowLaws.{closed-term, program-refuses, term-refuses}
 use Rattle.record.proofs.HeldLaws.{long-buffer, not-long}
 use Rattle.record.proofs.HoldingLaws.{term-k, term-passes}
-use Rattle.record.proofs.RowLaws.{first-applies, first-skips, isNone-none, isNone-some, not-intro, or-right, or-true}
+use Rattle.record.proofs.RowLaws.{first-applies, first-behind, first-skips, isNone-none, isNone-some, not-intro, or-right, or-true}
 use Rattle.record.proofs.RowMeaningLaws.{finished-iff, rows-mean}
 use Rattle.rules.proofs.FreeVariablesLaws.{closed-nums}
 use Rattle.rules.proofs.Tests.{true-false}
