@@ -13,7 +13,6 @@ pub mod UnrolledLaws
 pub mod ProgramEditLaws
 pub mod TermEditLaws
 pub mod TermPutLaws
-pub mod HeldTermLaws
 pub mod ProgramRecordLaws
 pub mod SourceKindLaws
 pub mod TermSubstitutionLaws

@@ -30,6 +30,9 @@ module _ {S : Vars} {k : ℕ} {t : Term} {buf : List ℕ} {used : ℕ} (h : Term
     small = omega (arith, term-size h, length-encodeTerm k t, h .within);
   }
 
+  pub record-end : 8 + (4 + termSize t) ≡ used
+  record-end = omega (arith, term-size h, length-encodeTerm k t)
+
   -- the term replaced by one of its size, and zeros behind the record
   pub record-put : (u : Term) → termSize u ≡ termSize t → (l₁ : List ℕ) → l₁ ≡ put buf 8 (encodeTermRecord u)
       → put l₁ used (zeros (length l₁ - used)) ≡ padded (length buf) (encodeTerm k u)

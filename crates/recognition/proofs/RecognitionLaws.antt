@@ -18,7 +18,7 @@ use Rattle.rules.specs.FreeVariables.{allVars}
 use Rattle.rules.specs.ReadBack.{Source, aBlock, aLoop, blockOfSource, boundOf, exprOf, nothing, readBack, sameAtoms, source, sourceLetAll, sourceLetOne, sourceRec}
 use Rattle.rules.specs.Syntax.{Atom, Block, Bound, Expr, Simple, Term, dec, empty, inc, letAll, letOne, lit, num, plain, predOf, rec, ref, succOf, tuple, var}
 use Rattle.rules.specs.Translation.{all}
-use Rattle.place.proofs.HeldTermLaws.{held-end, held-term}
+use Rattle.place.proofs.TermRecordLaws.{record-at, record-end}
 use Rattle.place.proofs.TermBytesLaws.{atomKind-range, kind-num, kind-ref}
 use Rattle.place.proofs.TermViewLaws.{as-letAll, as-letAtom, as-letPred, as-letSucc, as-rec, as-tuple, simple-kind, term-view}
 use Rattle.record.proofs.RowLaws.{isNone-none, isNone-some}
@@ -174,7 +174,7 @@ pub record ToRecognise (l : List ℕ) (k used : ℕ) (first : Bool) (at : ℕ) (
   pub same : recognised k first terms ≡ not (isNone (readBack k t))
 
 pub recognise-start : {k : ℕ} {t : Term} {l : List ℕ} {used : ℕ} → TermIn allVars k t l used → length l ≤ 16384 → ToRecognise l k used false 8 t
-recognise-start {k} {t} h b = record { terms = t ∷ []; row = terms-one (held-term h b) (held-end h); same = recognised-one k t }
+recognise-start {k} {t} h b = record { terms = t ∷ []; row = terms-one (record-at h b) (record-end h); same = recognised-one k t }
 
 module _ {l : List ℕ} {k used : ℕ} {first : Bool} {at : ℕ} {t : Term} (s : ToRecognise l k used first at t) where
   pub recognise-end : used ≤ at → true ≡ not (isNone (readBack k t))

@@ -5,7 +5,7 @@ use native.Mathlib.Omega.{arith}
 use mathlib.Core.List.{[], _∷_}
 use mathlib.Core.Path.{_∙_}
 use lib.ListN.{length}
-use Rattle.place.proofs.HeldTermLaws.{held-end, held-term}
+use Rattle.place.proofs.TermRecordLaws.{record-at, record-end}
 use Rattle.record.proofs.HeaderLaws.{length-encodeProgram}
 use Rattle.readback.proofs.CommandLaws.{program-length}
 use Rattle.recognition.proofs.ScanLaws.{terms-one}
@@ -43,7 +43,7 @@ write-commands-requires c κs =
     let h = q .2 in (
       (
         q .0 ∷ [],
-        terms-one (held-term h (c .before .before .before .before .before .before .before .before .before .before .before .before .before .before .before .before .pre .1)) (held-end h),
+        terms-one (record-at h (c .before .before .before .before .before .before .before .before .before .before .before .before .before .before .before .before .pre .1)) (record-end h),
         omega (arith, q .4, program-length (c .before .before .before .before .before .before .before .before .before .before .before .before .before .before .before .before .args .k) (q .0) (q .1) (q .3), c .before .before .out3 .given ∙ c .before .before .before .before .before .before .out2 .given ∙ c .before .before .before .before .before .before .before .before .before .before .out .given),
       ),
       h .within,
@@ -69,7 +69,7 @@ returns c =
     let q = c .before .before .before .before .before .before .before .before .before .before .before .before .before .before .before .before .before .before .before .before .before .before .before .pre .0 in
     let fits = q .4 in
     let n₀ = c .before .before .before .before .before .before .before .before .before .before .before .before .before .before .before .before .before .before .before .before .source-size .ensures (q .0) (q .1) (q .2) (q .3) in
-    write-program (a .k) t P e (a .out .now) (c .before .before .before .before .before .before .before .before .before .before .before .before .before .before .before .before .before .before .put-head .last .0) (c .before .before .before .before .before .before .before .before .before .before .before .before .before .before .put-u32 .last .0) (c .before .before .before .before .before .before .before .before .before .before .put-head2 .last .0) (c .before .before .before .before .before .before .write-commands .last .1 .1 .1 .1 .0) (c .before .before .zero .last .0) (c .before .before .before .before .before .before .before .before .before .before .before .before .before .before .before .before .before .before .before .before .source-size .result) (length (c .before .before .before .before .before .before .write-commands .last .1 .1 .1 .1 .0)) (c .before .before .before .before .before .before .before .before .before .before .before .before .before .before .before .before .before .before .before .before .source-size .ensures t P h e) (omega arith) (c .before .before .before .before .before .out4 .given ∙ c .before .before .before .before .before .before .before .before .before .out3 .given ∙ c .before .before .before .before .before .before .before .before .before .before .before .before .before .out2 .given ∙ c .before .before .before .before .before .before .before .before .before .before .before .before .before .before .before .before .before .out .given) (c .before .before .before .before .before .before .before .before .before .before .before .before .before .before .before .before .before .before .put-head .ensures) (c .before .before .before .before .before .before .before .before .before .before .before .before .before .before .put-u32 .ensures) (c .before .before .before .before .before .before .before .before .before .before .put-head2 .ensures) (c .before .before .before .before .before .before .write-commands .ensures (t ∷ []) (terms-one (held-term h (c .before .before .before .before .before .before .before .before .before .before .before .before .before .before .before .before .before .before .before .before .before .before .before .pre .1)) (held-end h))) (c .before .before .zero .ensures)
+    write-program (a .k) t P e (a .out .now) (c .before .before .before .before .before .before .before .before .before .before .before .before .before .before .before .before .before .before .put-head .last .0) (c .before .before .before .before .before .before .before .before .before .before .before .before .before .before .put-u32 .last .0) (c .before .before .before .before .before .before .before .before .before .before .put-head2 .last .0) (c .before .before .before .before .before .before .write-commands .last .1 .1 .1 .1 .0) (c .before .before .zero .last .0) (c .before .before .before .before .before .before .before .before .before .before .before .before .before .before .before .before .before .before .before .before .source-size .result) (length (c .before .before .before .before .before .before .write-commands .last .1 .1 .1 .1 .0)) (c .before .before .before .before .before .before .before .before .before .before .before .before .before .before .before .before .before .before .before .before .source-size .ensures t P h e) (omega arith) (c .before .before .before .before .before .out4 .given ∙ c .before .before .before .before .before .before .before .before .before .out3 .given ∙ c .before .before .before .before .before .before .before .before .before .before .before .before .before .out2 .given ∙ c .before .before .before .before .before .before .before .before .before .before .before .before .before .before .before .before .before .out .given) (c .before .before .before .before .before .before .before .before .before .before .before .before .before .before .before .before .before .before .put-head .ensures) (c .before .before .before .before .before .before .before .before .before .before .before .before .before .before .put-u32 .ensures) (c .before .before .before .before .before .before .before .before .before .before .put-head2 .ensures) (c .before .before .before .before .before .before .write-commands .ensures (t ∷ []) (terms-one (record-at h (c .before .before .before .before .before .before .before .before .before .before .before .before .before .before .before .before .before .before .before .before .before .before .before .pre .1)) (record-end h))) (c .before .before .zero .ensures)
 
 pub write-source-spec : {M : Type 1} → statement M
 write-source-spec =
