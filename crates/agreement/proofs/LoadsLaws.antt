@@ -4,7 +4,7 @@ use mathlib.Core.List.{map}
 use Rattle.buffer.specs.LittleEndian.{le, val}
 use Rattle.record.specs.Answers.{checkProgram, checkTerm, checkedBy, padded, storedBy, wroteBy}
 use Rattle.record.specs.Fix.{fixed, fuelled}
-use Rattle.record.specs.Header.{blockBytes, blockIn, contents, encodeProgram, encodeTerm, headed, kField, kindField, lengthField, termIn}
+use Rattle.record.specs.Header.{blockBytes, blockIn, contents, contentsAt, encodeProgram, encodeTerm, fieldsOf, headed, kField, kindField, kindOf, largestOf, lengthField, termIn}
 use Rattle.record.specs.Program.{blockSize, boundFrom, boundKind, boundNumber, commandKind, decodeBlock, decodeBlockPart, decodeBlockStep, decodeCommand, encodeBlock, exprFrom, exprKind, exprNumber}
 use Rattle.record.specs.Reading.{anyRecord, anyRecordOf, atEnd, bind, encodeLeaf, fromSome, leaf, leafOf, ofKind, pick, sub, subOf, then, word}
 use Rattle.record.specs.Record.{cut, encodeRecord, split}
@@ -18,7 +18,7 @@ use Rattle.rules.specs.Reduction.{onNext, reduce, reduceInside, reduceLetOne, u
 use Rattle.rules.specs.Run.{goOn, iterate, oneMore, orStop, outcomeOf, run, runOn, stop}
 use Rattle.rules.specs.Scope.{atomInRange, atomsInRange, blockInRange, boundInRange, exprInRange, inRange, simpleInRange, termInRange}
 use Rattle.rules.specs.Step.{boundValue, step, stepAssign, stepBlock, stepInside, unrollLoop}
-use Rattle.rules.specs.Store.{fitsWord, lookup, minusOne, update}
+use Rattle.rules.specs.Store.{lookup, minusOne, upTo, update}
 use Rattle.rules.specs.Substitution.{except, fromStore, only, orRef, stateOf, substitute, substituteAtom, substituteSimple}
 use Rattle.rules.specs.Translation.{atomOf, refs, simpleOf, translate}
 use Rattle.run.specs.RunAnswer.{outcomeNumber, roomFor}
@@ -28,5 +28,5 @@ use Rattle.agreement.specs.Loads.{acceptedValues, budget, configOfLoad, 
 use Rattle.agreement.specs.Orders.{afterReducer, afterStepper, lentStore, order, storeAfter, usedAfter}
 
 pub loads-hold : map shown loads ≡ map expected loads
-unfolding adding closedAtom closedAtoms closedSimple closedIn closed plays sameAtom sameAtoms exprOf boundOf sourceLetOne sourceLetAll sourceRec source blockOfSource readBack valueOf unrollRec reduceInside reduceLetOne reduce onNext orStop iterate outcomeOf stop oneMore goOn runOn run inRange exprInRange boundInRange blockInRange atomInRange atomsInRange simpleInRange termInRange boundValue unrollLoop stepInside stepAssign stepBlock step fitsWord minusOne lookup update fromStore only except orRef substituteAtom substituteSimple substitute stateOf refs simpleOf atomOf translate le val padded checkedBy checkProgram checkTerm wroteBy storedBy fuelled fixed lengthField kindField kField contents headed blockBytes encodeTermRecord blockIn termIn encodeProgram encodeTerm exprKind exprNumber boundKind boundNumber exprFrom boundFrom encodeBlock blockSize commandKind decodeCommand decodeBlockPart decodeBlockStep decodeBlock then bind atEnd fromSome pick word ofKind subOf sub encodeLeaf leafOf leaf anyRecordOf anyRecord encodeRecord cut split pickRow firstRow isNone holds orElse tooLong badBuffer badHeader badK badBlock badTerm blockOutside termOutside badStore openTerm finishedTerm unfinished atomKind atomNumber atomFrom encodeAtoms decodeAtoms simpleKindIf encodeSimple simpleSize onlyAtom plainOf simpleBy simpleFrom readSimple kindOfTerm termContents termSize termKindIf termKind lastTerm decodeTermKind decodeTermStep measureTerm decodeTerm outcomeNumber roomFor tooShort translateCall noSource readBackCall substituteCall numerals resultCall steppedTo stepperBy runStepper reducedTo reducerBy runReducer shownBy budget stepperEnding reducerEnding configOfLoad programBytesOf translatedOf substitutedOf endingOfStepper acceptedValues endingOfReducer shownFrom shown reducerExpected expected loads lentStore storeAfter usedAfter afterStepper afterReducer order
+unfolding adding closedAtom closedAtoms closedSimple closedIn closed plays sameAtom sameAtoms exprOf boundOf sourceLetOne sourceLetAll sourceRec source blockOfSource readBack valueOf unrollRec reduceInside reduceLetOne reduce onNext orStop iterate outcomeOf stop oneMore goOn runOn run inRange exprInRange boundInRange blockInRange atomInRange atomsInRange simpleInRange termInRange boundValue unrollLoop stepInside stepAssign stepBlock step upTo minusOne lookup update fromStore only except orRef substituteAtom substituteSimple substitute stateOf refs simpleOf atomOf translate le val padded checkedBy checkProgram checkTerm wroteBy storedBy fuelled fixed lengthField kindField kField kindOf largestOf fieldsOf contentsAt contents headed blockBytes encodeTermRecord blockIn termIn encodeProgram encodeTerm exprKind exprNumber boundKind boundNumber exprFrom boundFrom encodeBlock blockSize commandKind decodeCommand decodeBlockPart decodeBlockStep decodeBlock then bind atEnd fromSome pick word ofKind subOf sub encodeLeaf leafOf leaf anyRecordOf anyRecord encodeRecord cut split pickRow firstRow isNone holds orElse tooLong badBuffer badHeader badK badBlock badTerm blockOutside termOutside badStore openTerm finishedTerm unfinished atomKind atomNumber atomFrom encodeAtoms decodeAtoms simpleKindIf encodeSimple simpleSize onlyAtom plainOf simpleBy simpleFrom readSimple kindOfTerm termContents termSize termKindIf termKind lastTerm decodeTermKind decodeTermStep measureTerm decodeTerm outcomeNumber roomFor tooShort translateCall noSource readBackCall substituteCall numerals resultCall steppedTo stepperBy runStepper reducedTo reducerBy runReducer shownBy budget stepperEnding reducerEnding configOfLoad programBytesOf translatedOf substitutedOf endingOfStepper acceptedValues endingOfReducer shownFrom shown reducerExpected expected loads lentStore storeAfter usedAfter afterStepper afterReducer order
 loads-hold = refl

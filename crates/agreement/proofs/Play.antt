@@ -5,6 +5,8 @@ use mathlib.Core.List.{List}
 use lib.ListN.{length}
 use native.Mathlib.Nat.{add-zero}
 use native.Mathlib.Omega.{arith}
+use Rattle.record.specs.declared.Header.{Header}
+use Rattle.record.specs.Header.{okOf}
 use Rattle.record.specs.Holding.{ProgramIn, TermIn}
 use Rattle.record.specs.Rows.{firstRow, holds}
 use Rattle.reducer.specs.RunReducer.{reducerRows, runReducer}
@@ -14,7 +16,6 @@ use Rattle.rules.specs.Reduction.{reduce}
 use Rattle.rules.specs.Run.{iterate}
 use Rattle.rules.specs.Sound.{SmallValues, SoundConfig}
 use Rattle.rules.specs.Step.{step}
-use Rattle.rules.specs.Store.{fitsWord}
 use Rattle.rules.specs.Syntax.{Config, Term}
 use Rattle.run.specs.RunAnswer.{refusal}
 use Rattle.stepper.specs.RunStepper.{runStepper, stepperRows}
@@ -26,13 +27,13 @@ use Rattle.agreement.specs.Orders.{AllAllowed, Allowed, Lent, Order, Wor
 
 -- WHAT THE WORLD HOLDS: a sound configuration in the stepper's buffer and the store, a sound closed term in the reducer's buffer
 
-pub record StepperHolds (k : ℕ) (w : World) (c : Config) : Type 0 where
-  pub program : ProgramIn k (c .block) (w .stepperBuf) (w .stepperUsed)
+pub record StepperHolds (hd : Header) (w : World) (c : Config) : Type 0 where
+  pub program : ProgramIn hd (c .block) (w .stepperBuf) (w .stepperUsed)
   pub store : w .store ≡ c .store
-  pub sound : SoundConfig fitsWord k c
+  pub sound : SoundConfig (okOf hd) (hd .k) c
 
-abbrev pub ReducerHolds : ℕ → World → Term → Type 0
-ReducerHolds k w t = TermIn noVars k t (w .reducerBuf) (w .reducerUsed)
+abbrev pub ReducerHolds : Header → World → Term → Type 0
+ReducerHolds hd w t = TermIn noVars hd t (w .reducerBuf) (w .reducerUsed)
 
 -- where a number is 0 and where it is not
 by-number : {P : Type 0} (n : ℕ) → (n ≡ 0 → P) → ((n ≡ 0 → ⊥) → P) → P
@@ -59,29 +60,29 @@ refused-reducer : (w : World) (m : ℕ) → (m ≡ 0 → ⊥) → afterReducer w
 unfolding afterReducer
 refused-reducer w m h = rw (used-refused m 0 (w .reducerUsed) h, add-zero (w .reducerTotal)) refl
 
-module _ (k : ℕ) where
+module _ (hd : Header) where
   -- THE STEPPER'S SIDE of one order
 
   abbrev pub StepperMoves : World → Order → Config → Type 0
-  StepperMoves = Moves (step fitsWord) (λ (w : World). w .stepperTotal) order (StepperHolds k)
+  StepperMoves = Moves (step (okOf hd)) (λ (w : World). w .stepperTotal) order (StepperHolds hd)
 
   -- nothing has moved
-  stepper-stays : (w : World) (o : Order) (c : Config) → StepperHolds k w c → order w o ≡ w → StepperMoves w o c
+  stepper-stays : (w : World) (o : Order) (c : Config) → StepperHolds hd w c → order w o ≡ w → StepperMoves w o c
   unfolding iterate
   stepper-stays w o c h e = record {
     state = c;
     count = 0;
     counted = ap (λ (v : World). v .stepperTotal) e ∙ sym (add-zero (w .stepperTotal));
     stepped = refl;
-    holds = subst (λ v. StepperHolds k v c) (sym e) h;
+    holds = subst (λ v. StepperHolds hd v c) (sym e) h;
   }
 
   -- an accepted order with the own store
-  stepper-moved : (w : World) (budget : ℕ) (c : Config) → StepperHolds k w c → length (w .stepperBuf) ≤ 16384 → StepperMoves w (toStepper (w .stepperUsed) own budget) c
+  stepper-moved : (w : World) (budget : ℕ) (c : Config) → StepperHolds hd w c → length (w .stepperBuf) ≤ 16384 → StepperMoves w (toStepper (w .stepperUsed) own budget) c
   unfolding order lentStore afterStepper storeAfter
   stepper-moved w budget c h l =
-      let size : length (w .store) ≡ k = ap length (h .store) ∙ h .sound .variables .size in
-      let values : SmallValues fitsWord (w .store) = subst (SmallValues fitsWord) (sym (h .store)) (h .sound .values) in
+      let size : length (w .store) ≡ hd .k = ap length (h .store) ∙ h .sound .variables .size in
+      let values : SmallValues (okOf hd) (w .store) = subst (SmallValues (okOf hd)) (sym (h .store)) (h .sound .values) in
       let r = stepper-ran (h .program) l (w .store) size values budget in
       let call = runStepper (w .stepperBuf) (w .stepperUsed) (w .store) budget in
       let start : record { block = c .block; store = w .store } ≡ c = ap (λ (s : List ℕ). record { block = c .block; store = s }) (h .store) in
@@ -90,11 +91,11 @@ module _ (k : ℕ) where
         state = r .c;
         count = call .answer .steps;
         counted = refl;
-        stepped = ap (iterate (step fitsWord) (call .answer .steps)) (sym start) ∙ r .ran .stepped;
-        holds = record { program = subst (ProgramIn k (r .c .block) (call .buf)) (sym used) (r .again); store = r .values; sound = r .sound };
+        stepped = ap (iterate (step (okOf hd)) (call .answer .steps)) (sym start) ∙ r .ran .stepped;
+        holds = record { program = subst (ProgramIn hd (r .c .block) (call .buf)) (sym used) (r .again); store = r .values; sound = r .sound };
       }
 
-  pub stepper-moves : (w : World) (o : Order) (c : Config) → Allowed k o → StepperHolds k w c → StepperMoves w o c
+  pub stepper-moves : (w : World) (o : Order) (c : Config) → Allowed (hd .k) o → StepperHolds hd w c → StepperMoves w o c
   unfolding order lentStore afterReducer
   stepper-moves w (toStepper used own budget) c a h =
       by-number (firstRow (stepperRows (w .stepperBuf) used (w .store)))
@@ -118,19 +119,19 @@ module _ (k : ℕ) where
   -- THE REDUCER'S SIDE of one order
 
   abbrev pub ReducerMoves : World → Order → Term → Type 0
-  ReducerMoves = Moves (reduce fitsWord) (λ (w : World). w .reducerTotal) order (ReducerHolds k)
+  ReducerMoves = Moves (reduce (okOf hd)) (λ (w : World). w .reducerTotal) order (ReducerHolds hd)
 
-  reducer-stays : (w : World) (o : Order) (t : Term) → ReducerHolds k w t → order w o ≡ w → ReducerMoves w o t
+  reducer-stays : (w : World) (o : Order) (t : Term) → ReducerHolds hd w t → order w o ≡ w → ReducerMoves w o t
   unfolding iterate
   reducer-stays w o t h e = record {
     state = t;
     count = 0;
     counted = ap (λ (v : World). v .reducerTotal) e ∙ sym (add-zero (w .reducerTotal));
     stepped = refl;
-    holds = subst (λ v. ReducerHolds k v t) (sym e) h;
+    holds = subst (λ v. ReducerHolds hd v t) (sym e) h;
   }
 
-  reducer-moved : (w : World) (budget : ℕ) (t : Term) → ReducerHolds k w t → length (w .reducerBuf) ≤ 16384 → ReducerMoves w (toReducer (w .reducerUsed) budget) t
+  reducer-moved : (w : World) (budget : ℕ) (t : Term) → ReducerHolds hd w t → length (w .reducerBuf) ≤ 16384 → ReducerMoves w (toReducer (w .reducerUsed) budget) t
   unfolding order afterReducer
   reducer-moved w budget t h l =
       let r = reducer-ran h l budget in
@@ -141,10 +142,10 @@ module _ (k : ℕ) where
         count = call .answer .steps;
         counted = refl;
         stepped = r .ran .stepped;
-        holds = subst (TermIn noVars k (r .t) (call .buf)) (sym used) (r .again);
+        holds = subst (TermIn noVars hd (r .t) (call .buf)) (sym used) (r .again);
       }
 
-  pub reducer-moves : (w : World) (o : Order) (t : Term) → Allowed k o → ReducerHolds k w t → ReducerMoves w o t
+  pub reducer-moves : (w : World) (o : Order) (t : Term) → Allowed (hd .k) o → ReducerHolds hd w t → ReducerMoves w o t
   unfolding order afterStepper
   reducer-moves w (toStepper used lent budget) t a h = unfold iterate in record {
     state = t;
@@ -163,13 +164,13 @@ module _ (k : ℕ) where
   -- AFTER A LIST
 
   abbrev pub StepperStands : Config → World → Type 0
-  StepperStands = Stands (step fitsWord) (λ (w : World). w .stepperTotal) order (StepperHolds k)
+  StepperStands = Stands (step (okOf hd)) (λ (w : World). w .stepperTotal) order (StepperHolds hd)
 
   abbrev pub ReducerStands : Term → World → Type 0
-  ReducerStands = Stands (reduce fitsWord) (λ (w : World). w .reducerTotal) order (ReducerHolds k)
+  ReducerStands = Stands (reduce (okOf hd)) (λ (w : World). w .reducerTotal) order (ReducerHolds hd)
 
-  pub stepper-stands : (c : Config) (os : List Order) (w : World) → AllAllowed k os → StepperStands c w → StepperStands c (play w os)
-  stepper-stands = stands-plays (step fitsWord) (λ (w : World). w .stepperTotal) order (StepperHolds k) (Allowed k) stepper-moves
+  pub stepper-stands : (c : Config) (os : List Order) (w : World) → AllAllowed (hd .k) os → StepperStands c w → StepperStands c (play w os)
+  stepper-stands = stands-plays (step (okOf hd)) (λ (w : World). w .stepperTotal) order (StepperHolds hd) (Allowed (hd .k)) stepper-moves
 
-  pub reducer-stands : (t : Term) (os : List Order) (w : World) → AllAllowed k os → ReducerStands t w → ReducerStands t (play w os)
-  reducer-stands = stands-plays (reduce fitsWord) (λ (w : World). w .reducerTotal) order (ReducerHolds k) (Allowed k) reducer-moves
+  pub reducer-stands : (t : Term) (os : List Order) (w : World) → AllAllowed (hd .k) os → ReducerStands t w → ReducerStands t (play w os)
+  reducer-stands = stands-plays (reduce (okOf hd)) (λ (w : World). w .reducerTotal) order (ReducerHolds hd) (Allowed (hd .k)) reducer-moves

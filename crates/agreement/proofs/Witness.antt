@@ -8,7 +8,7 @@ use native.Mathlib.Omega.{arith}
 use Rattle.buffer.specs.LittleEndian.{le, val}
 use Rattle.record.specs.Answers.{checkProgram, checkTerm, checkedBy, padded, storedBy, wroteBy}
 use Rattle.record.specs.Fix.{fixed, fuelled}
-use Rattle.record.specs.Header.{blockBytes, blockIn, contents, encodeProgram, encodeTerm, headed, kField, kindField, lengthField, termIn}
+use Rattle.record.specs.Header.{blockBytes, blockIn, contents, contentsAt, encodeProgram, encodeTerm, fieldsOf, headed, kField, kindField, kindOf, largestOf, lengthField, termIn}
 use Rattle.record.specs.Program.{blockSize, boundFrom, boundKind, boundNumber, commandKind, decodeBlock, decodeBlockPart, decodeBlockStep, decodeCommand, encodeBlock, exprFrom, exprKind, exprNumber}
 use Rattle.record.specs.Reading.{anyRecord, anyRecordOf, atEnd, bind, encodeLeaf, fromSome, leaf, leafOf, ofKind, pick, sub, subOf, then, word}
 use Rattle.record.specs.Record.{cut, encodeRecord, split}
@@ -22,34 +22,34 @@ use Rattle.rules.specs.Reduction.{onNext, reduce, reduceInside, reduceLetOne, u
 use Rattle.rules.specs.Run.{goOn, iterate, oneMore, orStop, outcomeOf, run, runOn, stop}
 use Rattle.rules.specs.Scope.{atomInRange, atomsInRange, blockInRange, boundInRange, exprInRange, inRange, simpleInRange, termInRange}
 use Rattle.rules.specs.Step.{boundValue, step, stepAssign, stepBlock, stepInside, unrollLoop}
-use Rattle.rules.specs.Store.{fitsWord, lookup, minusOne, update}
+use Rattle.rules.specs.Store.{lookup, minusOne, upTo, update}
 use Rattle.rules.specs.Substitution.{except, fromStore, only, orRef, stateOf, substitute, substituteAtom, substituteSimple}
 use Rattle.rules.specs.Translation.{atomOf, refs, simpleOf, translate}
 use Rattle.run.specs.RunAnswer.{outcomeNumber, roomFor}
 use Rattle.stepper.specs.RunStepper.{runStepper, steppedTo, stepperBy}
 use Rattle.term.specs.Calls.{noSource, numerals, readBackCall, resultCall, substituteCall, substituted, tooShort, translateCall}
 use Rattle.agreement.specs.Demand3.{Agree, Demand3, Start, startWorld}
-use Rattle.agreement.specs.Loads.{acceptedValues, add, budget, configOfLoad, endingOfReducer, endingOfStepper, expected, loads, programBytesOf, reducerEnding, reducerExpected, shown, shownBy, shownFrom, stepperEnding, substitutedOf, translatedOf}
+use Rattle.agreement.specs.Loads.{acceptedValues, add, budget, configOfLoad, endingOfReducer, endingOfStepper, expected, loads, ofVariables, programBytesOf, reducerEnding, reducerExpected, shown, shownBy, shownFrom, stepperEnding, substitutedOf, translatedOf}
 use Rattle.agreement.specs.Orders.{Order, afterReducer, afterStepper, lentStore, order, other, own, play, storeAfter, toReducer, toStepper, usedAfter}
 use Rattle.agreement.proofs.Demand3Laws.{demand3}
 
 -- P1, in a stepper's buffer of 160 bytes and a reducer's of 400, with nines behind the records
-pub witness : Start 4 add (7 ∷ 3 ∷ 0 ∷ 0 ∷ [])
-unfolding adding closedAtom closedAtoms closedSimple closedIn closed plays sameAtom sameAtoms exprOf boundOf sourceLetOne sourceLetAll sourceRec source blockOfSource readBack valueOf unrollRec reduceInside reduceLetOne reduce onNext orStop iterate outcomeOf stop oneMore goOn runOn run inRange exprInRange boundInRange blockInRange atomInRange atomsInRange simpleInRange termInRange boundValue unrollLoop stepInside stepAssign stepBlock step fitsWord minusOne lookup update fromStore only except orRef substituteAtom substituteSimple substitute stateOf refs simpleOf atomOf translate le val padded checkedBy checkProgram checkTerm wroteBy storedBy fuelled fixed lengthField kindField kField contents headed blockBytes encodeTermRecord blockIn termIn encodeProgram encodeTerm exprKind exprNumber boundKind boundNumber exprFrom boundFrom encodeBlock blockSize commandKind decodeCommand decodeBlockPart decodeBlockStep decodeBlock then bind atEnd fromSome pick word ofKind subOf sub encodeLeaf leafOf leaf anyRecordOf anyRecord encodeRecord cut split pickRow firstRow isNone holds orElse tooLong badBuffer badHeader badK badBlock badTerm blockOutside termOutside badStore openTerm finishedTerm unfinished atomKind atomNumber atomFrom encodeAtoms decodeAtoms simpleKindIf encodeSimple simpleSize onlyAtom plainOf simpleBy simpleFrom readSimple kindOfTerm termContents termSize termKindIf termKind lastTerm decodeTermKind decodeTermStep measureTerm decodeTerm outcomeNumber roomFor tooShort translateCall noSource readBackCall substituteCall numerals resultCall steppedTo stepperBy runStepper reducedTo reducerBy runReducer shownBy budget stepperEnding reducerEnding configOfLoad programBytesOf translatedOf substitutedOf endingOfStepper acceptedValues endingOfReducer shownFrom shown reducerExpected expected loads lentStore storeAfter usedAfter afterStepper afterReducer order
+pub witness : Start (ofVariables 4) add (7 ∷ 3 ∷ 0 ∷ 0 ∷ [])
+unfolding adding closedAtom closedAtoms closedSimple closedIn closed plays sameAtom sameAtoms exprOf boundOf sourceLetOne sourceLetAll sourceRec source blockOfSource readBack valueOf unrollRec reduceInside reduceLetOne reduce onNext orStop iterate outcomeOf stop oneMore goOn runOn run inRange exprInRange boundInRange blockInRange atomInRange atomsInRange simpleInRange termInRange boundValue unrollLoop stepInside stepAssign stepBlock step upTo minusOne lookup update fromStore only except orRef substituteAtom substituteSimple substitute stateOf refs simpleOf atomOf translate le val padded checkedBy checkProgram checkTerm wroteBy storedBy fuelled fixed lengthField kindField kField kindOf largestOf fieldsOf contentsAt contents headed blockBytes encodeTermRecord blockIn termIn encodeProgram encodeTerm exprKind exprNumber boundKind boundNumber exprFrom boundFrom encodeBlock blockSize commandKind decodeCommand decodeBlockPart decodeBlockStep decodeBlock then bind atEnd fromSome pick word ofKind subOf sub encodeLeaf leafOf leaf anyRecordOf anyRecord encodeRecord cut split pickRow firstRow isNone holds orElse tooLong badBuffer badHeader badK badBlock badTerm blockOutside termOutside badStore openTerm finishedTerm unfinished atomKind atomNumber atomFrom encodeAtoms decodeAtoms simpleKindIf encodeSimple simpleSize onlyAtom plainOf simpleBy simpleFrom readSimple kindOfTerm termContents termSize termKindIf termKind lastTerm decodeTermKind decodeTermStep measureTerm decodeTerm outcomeNumber roomFor tooShort translateCall noSource readBackCall substituteCall numerals resultCall steppedTo stepperBy runStepper reducedTo reducerBy runReducer shownBy budget stepperEnding reducerEnding configOfLoad programBytesOf translatedOf substitutedOf endingOfStepper acceptedValues endingOfReducer shownFrom shown reducerExpected expected loads lentStore storeAfter usedAfter afterStepper afterReducer order
 witness = record {
-  checkBuf = encodeProgram 4 add;
+  checkBuf = encodeProgram (ofVariables 4) add;
   checkUsed = 64;
   checked = refl;
   program = refl;
   programWords = (lit< tt, lit< tt, (lit< tt, lit< tt, (lit< tt, lit< tt, tt), tt));
-  termBuf = encodeTerm 4 (translate 4 add);
+  termBuf = encodeTerm (ofVariables 4) (translate 4 add);
   termUsed = 172;
   term = refl;
   substituted = refl;
   storeValues = (refl, (refl, (refl, (refl, tt))));
-  stepperBuf = encodeProgram 4 add ++ nines 96;
+  stepperBuf = encodeProgram (ofVariables 4) add ++ nines 96;
   stepperBegins = refl;
-  reducerBuf = encodeTerm 4 (substitute (fromStore (7 ∷ 3 ∷ 0 ∷ 0 ∷ [])) (translate 4 add)) ++ nines 228;
+  reducerBuf = encodeTerm (ofVariables 4) (substitute (fromStore (7 ∷ 3 ∷ 0 ∷ 0 ∷ [])) (translate 4 add)) ++ nines 228;
   reducerUsed = 172;
   reducerFits = lit≤ tt;
   reducerBegins = refl;
@@ -69,16 +69,16 @@ orders = toStepper 64 own 5
     ∷ []
 
 pub record Totals : Type 0 where
-  pub stepper : (play (startWorld 4 add (7 ∷ 3 ∷ 0 ∷ 0 ∷ []) witness) orders) .stepperTotal ≡ 7
-  pub reducer : (play (startWorld 4 add (7 ∷ 3 ∷ 0 ∷ 0 ∷ []) witness) orders) .reducerTotal ≡ 7
+  pub stepper : (play (startWorld (ofVariables 4) add (7 ∷ 3 ∷ 0 ∷ 0 ∷ []) witness) orders) .stepperTotal ≡ 7
+  pub reducer : (play (startWorld (ofVariables 4) add (7 ∷ 3 ∷ 0 ∷ 0 ∷ []) witness) orders) .reducerTotal ≡ 7
 
 pub totals : Totals
-unfolding witness adding closedAtom closedAtoms closedSimple closedIn closed plays sameAtom sameAtoms exprOf boundOf sourceLetOne sourceLetAll sourceRec source blockOfSource readBack valueOf unrollRec reduceInside reduceLetOne reduce onNext orStop iterate outcomeOf stop oneMore goOn runOn run inRange exprInRange boundInRange blockInRange atomInRange atomsInRange simpleInRange termInRange boundValue unrollLoop stepInside stepAssign stepBlock step fitsWord minusOne lookup update fromStore only except orRef substituteAtom substituteSimple substitute stateOf refs simpleOf atomOf translate le val padded checkedBy checkProgram checkTerm wroteBy storedBy fuelled fixed lengthField kindField kField contents headed blockBytes encodeTermRecord blockIn termIn encodeProgram encodeTerm exprKind exprNumber boundKind boundNumber exprFrom boundFrom encodeBlock blockSize commandKind decodeCommand decodeBlockPart decodeBlockStep decodeBlock then bind atEnd fromSome pick word ofKind subOf sub encodeLeaf leafOf leaf anyRecordOf anyRecord encodeRecord cut split pickRow firstRow isNone holds orElse tooLong badBuffer badHeader badK badBlock badTerm blockOutside termOutside badStore openTerm finishedTerm unfinished atomKind atomNumber atomFrom encodeAtoms decodeAtoms simpleKindIf encodeSimple simpleSize onlyAtom plainOf simpleBy simpleFrom readSimple kindOfTerm termContents termSize termKindIf termKind lastTerm decodeTermKind decodeTermStep measureTerm decodeTerm outcomeNumber roomFor tooShort translateCall noSource readBackCall substituteCall numerals resultCall steppedTo stepperBy runStepper reducedTo reducerBy runReducer shownBy budget stepperEnding reducerEnding configOfLoad programBytesOf translatedOf substitutedOf endingOfStepper acceptedValues endingOfReducer shownFrom shown reducerExpected expected loads lentStore storeAfter usedAfter afterStepper afterReducer order
+unfolding witness adding closedAtom closedAtoms closedSimple closedIn closed plays sameAtom sameAtoms exprOf boundOf sourceLetOne sourceLetAll sourceRec source blockOfSource readBack valueOf unrollRec reduceInside reduceLetOne reduce onNext orStop iterate outcomeOf stop oneMore goOn runOn run inRange exprInRange boundInRange blockInRange atomInRange atomsInRange simpleInRange termInRange boundValue unrollLoop stepInside stepAssign stepBlock step upTo minusOne lookup update fromStore only except orRef substituteAtom substituteSimple substitute stateOf refs simpleOf atomOf translate le val padded checkedBy checkProgram checkTerm wroteBy storedBy fuelled fixed lengthField kindField kField kindOf largestOf fieldsOf contentsAt contents headed blockBytes encodeTermRecord blockIn termIn encodeProgram encodeTerm exprKind exprNumber boundKind boundNumber exprFrom boundFrom encodeBlock blockSize commandKind decodeCommand decodeBlockPart decodeBlockStep decodeBlock then bind atEnd fromSome pick word ofKind subOf sub encodeLeaf leafOf leaf anyRecordOf anyRecord encodeRecord cut split pickRow firstRow isNone holds orElse tooLong badBuffer badHeader badK badBlock badTerm blockOutside termOutside badStore openTerm finishedTerm unfinished atomKind atomNumber atomFrom encodeAtoms decodeAtoms simpleKindIf encodeSimple simpleSize onlyAtom plainOf simpleBy simpleFrom readSimple kindOfTerm termContents termSize termKindIf termKind lastTerm decodeTermKind decodeTermStep measureTerm decodeTerm outcomeNumber roomFor tooShort translateCall noSource readBackCall substituteCall numerals resultCall steppedTo stepperBy runStepper reducedTo reducerBy runReducer shownBy budget stepperEnding reducerEnding configOfLoad programBytesOf translatedOf substitutedOf endingOfStepper acceptedValues endingOfReducer shownFrom shown reducerExpected expected loads lentStore storeAfter usedAfter afterStepper afterReducer order
 totals = record { stepper = refl; reducer = refl }
 
 -- so the engines agree after that list
-pub agreed : Agree 4 (play (startWorld 4 add (7 ∷ 3 ∷ 0 ∷ 0 ∷ []) witness) orders)
+pub agreed : Agree (ofVariables 4) (play (startWorld (ofVariables 4) add (7 ∷ 3 ∷ 0 ∷ 0 ∷ []) witness) orders)
 unfolding Demand3
 agreed =
-    demand3 4 add (7 ∷ 3 ∷ 0 ∷ 0 ∷ []) witness orders (tt, (tt, (tt, ((λ e. let z : 0 ≡ 4 = e in omega arith), (tt, (tt, tt))))))
+    demand3 (ofVariables 4) add (7 ∷ 3 ∷ 0 ∷ 0 ∷ []) witness orders (tt, (tt, (tt, ((λ e. let z : 0 ≡ 4 = e in omega arith), (tt, (tt, tt))))))
     (totals .stepper ∙ sym (totals .reducer))

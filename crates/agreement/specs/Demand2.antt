@@ -9,6 +9,8 @@ use mathlib.Core.List.{List}
 use lib.ListN.{length}
 use Rattle.buffer.specs.LittleEndian.{Bytes}
 use Rattle.record.specs.Answers.{checkProgram, checkTerm}
+use Rattle.record.specs.declared.Header.{Header}
+use Rattle.record.specs.Header.{largestOf, okOf}
 use Rattle.record.specs.Holding.{ProgramIn, TermIn}
 use Rattle.record.specs.RowMeaning.{RowsMean}
 use Rattle.reducer.specs.ReducerRan.{ReducerRan}
@@ -18,7 +20,7 @@ use Rattle.rules.specs.Reduction.{reduce}
 use Rattle.rules.specs.Rules.{Raises, RaisesTerm, Reduce, Step}
 use Rattle.rules.specs.Sound.{SmallValues}
 use Rattle.rules.specs.Step.{step}
-use Rattle.rules.specs.Store.{fitsWord, noLimit}
+use Rattle.rules.specs.Store.{noLimit}
 use Rattle.rules.specs.Syntax.{Atom, Block, Config, Term, empty, finished, next, over, tuple}
 use Rattle.rules.specs.Translation.{translate}
 use Rattle.stepper.specs.RunStepper.{runStepper}
@@ -30,14 +32,14 @@ use Rattle.weighing.specs.WeighMeaning.{WeighMeans}
 pub record Demand2 : Type 0 where
   -- THE RULES: a step, and a reduction of a closed term, is one of the paper's; over is a value that the rule works out and
   -- that is too large; finished is the empty block, and the tuple
-  pub steps : (c d : Config) → (step fitsWord c ≡ next d) ↔ Step fitsWord c d
-  pub reduces : (t u : Term) → closed t ≡ true → (reduce fitsWord t ≡ next u) ↔ Reduce fitsWord t u
-  pub stepsOver : (c : Config) → (step fitsWord c ≡ over) ↔ ((n : ℕ) × Raises c n × (4294967295 < n))
-  pub reducesOver : (t : Term) → closed t ≡ true → (reduce fitsWord t ≡ over) ↔ ((n : ℕ) × RaisesTerm t n × (4294967295 < n))
-  pub stepsOverRules : (c : Config) → (step fitsWord c ≡ over) ↔ ((d : Config) × Step noLimit c d × (Step fitsWord c d → ⊥))
-  pub reducesOverRules : (t : Term) → closed t ≡ true → (reduce fitsWord t ≡ over) ↔ ((u : Term) × Reduce noLimit t u × (Reduce fitsWord t u → ⊥))
-  pub stepsFinished : (c : Config) → ((vs : List ℕ) × (step fitsWord c ≡ finished vs)) ↔ (c .block ≡ empty)
-  pub reducesFinished : (t : Term) → ((vs : List ℕ) × (reduce fitsWord t ≡ finished vs)) ↔ ((l : List Atom) × (t ≡ tuple l))
+  pub steps : (h : Header) (c d : Config) → (step (okOf h) c ≡ next d) ↔ Step (okOf h) c d
+  pub reduces : (h : Header) (t u : Term) → closed t ≡ true → (reduce (okOf h) t ≡ next u) ↔ Reduce (okOf h) t u
+  pub stepsOver : (h : Header) (c : Config) → (step (okOf h) c ≡ over) ↔ ((n : ℕ) × Raises c n × (largestOf h < n))
+  pub reducesOver : (h : Header) (t : Term) → closed t ≡ true → (reduce (okOf h) t ≡ over) ↔ ((n : ℕ) × RaisesTerm t n × (largestOf h < n))
+  pub stepsOverRules : (h : Header) (c : Config) → (step (okOf h) c ≡ over) ↔ ((d : Config) × Step noLimit c d × (Step (okOf h) c d → ⊥))
+  pub reducesOverRules : (h : Header) (t : Term) → closed t ≡ true → (reduce (okOf h) t ≡ over) ↔ ((u : Term) × Reduce noLimit t u × (Reduce (okOf h) t u → ⊥))
+  pub stepsFinished : (h : Header) (c : Config) → ((vs : List ℕ) × (step (okOf h) c ≡ finished vs)) ↔ (c .block ≡ empty)
+  pub reducesFinished : (h : Header) (t : Term) → ((vs : List ℕ) × (reduce (okOf h) t ≡ finished vs)) ↔ ((l : List Atom) × (t ≡ tuple l))
   pub injective : (k : ℕ) (P Q : Block) → translate k P ≡ translate k Q → P ≡ Q
   -- THE ROWS' TESTS in plain facts, and what translate, read back, substitute, result and weigh answer
   pub rowsMean : RowsMean
@@ -45,12 +47,12 @@ pub record Demand2 : Type 0 where
   pub weighMeans : WeighMeans
   -- CHECK: 0 and k exactly where the bytes are the record of a program, of a term, in a buffer that is not too long
   pub checksProgram : (k : ℕ) (buf : List ℕ) (used : ℕ) → Bytes buf
-      → (checkProgram buf used ≡ record { number = 0; k = k }) ↔ ((length buf ≤ 16384) × ((P : Block) × ProgramIn k P buf used))
+      → (checkProgram buf used ≡ record { number = 0; k = k }) ↔ ((length buf ≤ 16384) × ((h : Header) × (P : Block) × (h .k ≡ k) × ProgramIn h P buf used))
   pub checksTerm : (k : ℕ) (buf : List ℕ) (used : ℕ) → Bytes buf
-      → (checkTerm buf used ≡ record { number = 0; k = k }) ↔ ((length buf ≤ 16384) × ((t : Term) × TermIn allVars k t buf used))
+      → (checkTerm buf used ≡ record { number = 0; k = k }) ↔ ((length buf ≤ 16384) × ((h : Header) × (t : Term) × (h .k ≡ k) × TermIn allVars h t buf used))
   -- THE RUNS, of any program, and of any closed term
-  pub runsStepper : (k : ℕ) (P : Block) (buf : List ℕ) (used : ℕ) (store : List ℕ) (budget : ℕ)
-      → ProgramIn k P buf used → length buf ≤ 16384 → length store ≡ k → SmallValues fitsWord store
-      → StepperRan k (record { block = P; store = store }) (length buf) budget (runStepper buf used store budget)
-  pub runsReducer : (k : ℕ) (t : Term) (buf : List ℕ) (used budget : ℕ) → TermIn noVars k t buf used → length buf ≤ 16384
-      → ReducerRan k t (length buf) budget (runReducer buf used budget)
+  pub runsStepper : (h : Header) (P : Block) (buf : List ℕ) (used : ℕ) (store : List ℕ) (budget : ℕ)
+      → ProgramIn h P buf used → length buf ≤ 16384 → length store ≡ h .k → SmallValues (okOf h) store
+      → StepperRan h (record { block = P; store = store }) (length buf) budget (runStepper buf used store budget)
+  pub runsReducer : (h : Header) (t : Term) (buf : List ℕ) (used budget : ℕ) → TermIn noVars h t buf used → length buf ≤ 16384
+      → ReducerRan h t (length buf) budget (runReducer buf used budget)

@@ -6,12 +6,12 @@ use mathlib.Core.List.{List, [], _∷_}
 use lib.Dec.{eqb}
 use lib.ListN.{length, replicate, take}
 use Rattle.record.specs.Answers.{Checked, Stored, Wrote, checkProgram, padded}
-use Rattle.record.specs.Header.{encodeProgram, encodeTerm}
+use Rattle.record.specs.declared.Header.{Header}
+use Rattle.record.specs.Header.{encodeProgram, encodeTerm, okOf}
 use Rattle.reducer.specs.RunReducer.{ReducerCall, runReducer}
 use Rattle.rules.specs.Reduction.{reduce}
 use Rattle.rules.specs.Run.{Outcome, Ran, isFinished, isOver, noRoom, refused, spent}
 use Rattle.rules.specs.Step.{step}
-use Rattle.rules.specs.Store.{fitsWord}
 use Rattle.rules.specs.Substitution.{stateOf}
 use Rattle.rules.specs.Syntax.{Block, Config, Term, assign, dec, empty, inc, lit, loop, nest, upto, uptoVar, var}
 use Rattle.run.specs.RunAnswer.{runIn}
@@ -27,7 +27,7 @@ pub record Ending : Type 0 where
 
 -- A load, and what 01 says of it. Where the lengths of the two buffers are given, they are 01's.
 pub record Load : Type 0 where
-  pub k : ℕ
+  pub header : Header
   pub program : Block
   pub store : List ℕ
   pub stepperRoom : ℕ
@@ -82,7 +82,7 @@ pub record Shown : Type 0 where
 
 -- The program's record.
 unfoldable pub programBytesOf : Load → List ℕ
-programBytesOf l = encodeProgram (l .k) (l .program)
+programBytesOf l = encodeProgram (l .header) (l .program)
 
 -- What translate answers, the reducer's buffer being its output buffer.
 unfoldable pub translatedOf : Load → Wrote
@@ -112,8 +112,8 @@ shownFrom l t s = record {
   termLength = t .used;
   programPrinted = take (length (l .programPrinted)) (programBytesOf l);
   termPrinted = take (length (l .termPrinted)) (t .written);
-  ruleStepper = stepperEnding (runIn (step fitsWord) (configBytes (l .k)) (l .stepperRoom) budget (configOfLoad l));
-  ruleReducer = reducerEnding (runIn (reduce fitsWord) (encodeTerm (l .k)) (l .reducerRoom) budget (stateOf (l .k) (configOfLoad l)));
+  ruleStepper = stepperEnding (runIn (step (okOf (l .header))) (configBytes (l .header)) (l .stepperRoom) budget (configOfLoad l));
+  ruleReducer = reducerEnding (runIn (reduce (okOf (l .header))) (encodeTerm (l .header)) (l .reducerRoom) budget (stateOf (l .header .k) (configOfLoad l)));
   byteStepper = endingOfStepper (runStepper (padded (l .stepperRoom) (programBytesOf l)) (length (programBytesOf l)) (l .store) budget);
   byteReducer = endingOfReducer (l .store) (runReducer (s .written) (s .used) budget);
 }
@@ -131,7 +131,7 @@ reducerExpected e = record { outcome = e .outcome; steps = e .steps; values = sh
 -- What is expected: the check accepts, the two records are as said, and both engines end as said.
 unfoldable pub expected : Load → Shown
 expected l = record {
-  checked = record { number = 0; k = l .k };
+  checked = record { number = 0; k = l .header .k };
   programLength = l .programLength;
   termLength = l .termLength;
   programPrinted = l .programPrinted;
@@ -148,11 +148,15 @@ expected l = record {
 abbrev pub add : Block
 add = assign 3 (var 1) (loop 4 (uptoVar 2) (assign 3 (inc 3) empty) empty)
 
+-- The header of a record of k variables.
+abbrev pub ofVariables : ℕ → Header
+ofVariables k = record { k = k }
+
 -- An entry whose bytes 01 does not print: k, program, store, the lengths of the two buffers and of the two records, outcome,
 -- steps, values.
 abbrev pub load : ℕ → Block → List ℕ → ℕ → ℕ → ℕ → ℕ → Outcome → ℕ → List ℕ → Load
 load k p s a b n m o c v = record {
-  k = k;
+  header = ofVariables k;
   program = p;
   store = s;
   stepperRoom = a;
@@ -187,7 +191,7 @@ loads =
     ∷ load 2 (loop 2 (uptoVar 1) (assign 1 (inc 1) empty) empty) (2 ∷ 0 ∷ []) 400 400 48 108 isFinished 12 (4 ∷ 2 ∷ [])
     -- P9: {}, with the two byte strings
     ∷ record {
-      k = 1;
+      header = ofVariables 1;
       program = empty;
       store = 5 ∷ [];
       stepperRoom = 12;

@@ -1,11 +1,14 @@
 // What the check of a program and the check of a term share: rows 1 to 3, a variable number's range, what is found of a
 // record's contents (rows 4 and 5), and the answer.
-use reader::Cell;
 use reader::Head;
+use record::Sort;
 ghost use mathlib.Core.Path.{_≡_};
+ghost use mathlib.Core.Bool.{false};
+ghost use lib.Dec.{ltb};
 ghost use Rattle.rules.specs.Scope.{inRange};
 ghost use Rattle.record.specs.Answers.{checkedBy};
 ghost use Rattle.record.specs.HeaderRows.{headerRow};
+ghost use Rattle.record.specs.Rows.{badBuffer};
 ghost use Rattle.checker.specs.Answer.{asChecked};
 ghost use Rattle.checker.specs.Verdict.{numberOf, rated, worse};
 
@@ -74,36 +77,48 @@ pub fn answer(number: u32, k: u32) -> Checked
     }
 }
 
-// The first of rows 1 to 3 that applies to a record of this kind; 0 where none does. Under 8 bytes a record has no k.
-pub fn check_header(buf: &[u8], used: usize, kind: usize) -> u32
-    ensures { λ r. ⌜ r ≡ headerRow kind (now (buf .entry)) used ⌝ }
+// The half of row 1 that is asked of every buffer, and alone of one that only takes output: it is longer than a buffer may be.
+pub fn too_long(length: usize) -> bool
+    ensures { λ r. ⌜ r ≡ ltb 16384 length ⌝ }
 {
-    if 16384 < buf.len() {
-        return 1;
+    16384 < length
+}
+
+// Row 1 of a buffer that is lent with a used length.
+pub fn bad_buffer(buf: &[u8], used: usize) -> bool
+    ensures { λ r. ⌜ r ≡ badBuffer (now (buf .entry)) used ⌝ }
+{
+    if too_long(buf.len()) {
+        return true;
     }
-    if buf.len() < used {
-        return 1;
-    }
+    buf.len() < used
+}
+
+// The first of rows 2 and 3 that applies to a record of this sort, in a buffer that row 1 lets through; 0 where neither does. A
+// record that has no whole header has no k.
+pub fn check_header(buf: &[u8], used: usize, sort: Sort) -> u32
+    requires { ⌜ badBuffer (now buf) used ≡ false ⌝ }
+    ensures { λ r. ⌜ r ≡ headerRow sort (now (buf .entry)) used ⌝ }
+{
     match reader::head_of(buf) {
         Head::Record(length, found) => {
-            if found != kind {
+            if used < record::start_of(buf) {
+                return 2;
+            }
+            let h = record::read_header(buf);
+            if found != h.kind_of(sort) {
                 return 2;
             }
             if length != used {
                 return 2;
             }
-            match reader::word_of(buf, 4) {
-                Cell::Word(k) => {
-                    if k < 1 {
-                        return 3;
-                    }
-                    if 16 < k {
-                        return 3;
-                    }
-                    0
-                }
-                Cell::Out => 2,
+            if h.k < 1 {
+                return 3;
             }
+            if 16 < h.k {
+                return 3;
+            }
+            0
         }
         Head::End => 2,
         Head::Short => 2,

@@ -8,7 +8,6 @@ use native.Mathlib.Omega.{arith}
 use Rattle.buffer.specs.LittleEndian.{val}
 use Rattle.place.specs.Path.{blocks, path, spot}
 use Rattle.place.specs.ProgramView.{BlockAt}
-use Rattle.place.specs.Whole.{blockAt}
 use Rattle.record.specs.Holding.{ProgramIn}
 use Rattle.record.specs.Program.{blockSize, boundKind, boundNumber, exprKind, exprNumber}
 use Rattle.buffer.specs.Slice.{part}
@@ -16,7 +15,10 @@ use Rattle.rules.specs.FreeVariables.{here}
 use Rattle.rules.specs.Rules.{at}
 use Rattle.rules.specs.Scope.{BlockWithin, BoundWithin, ExprWithin}
 use Rattle.rules.specs.Step.{boundValue}
-use Rattle.rules.specs.Store.{fitsWord, lookup, minusOne}
+use mathlib.Core.Bool.{Bool}
+use Rattle.rules.specs.Store.{lookup, minusOne}
+use Rattle.record.specs.declared.Header.{Header}
+use Rattle.record.specs.Header.{contentsAt}
 use Rattle.rules.specs.Syntax.{Block, Bound, Expr, assign, empty, loop, nest}
 use Rattle.place.proofs.NestingLaws.{plug-keeps}
 use Rattle.place.proofs.PathLaws.{plug-spot, spot-at, spot-is, spot-some}
@@ -29,23 +31,23 @@ use Rattle.command.specs.Plan.{planAssign, planLoop, planOf, planSpot}
 
 -- ASSIGNMENTS, by the expression's kind and number
 
-module _ (levels at x : ℕ) (e : Expr) (s : List ℕ) where
-  pub plan-lit : exprKind e ≡ 16 → planAssign levels at x e s ≡ plan levels at Bind x (exprNumber e) 0 16
+module _ (ok : ℕ → Bool) (levels at x : ℕ) (e : Expr) (s : List ℕ) where
+  pub plan-lit : exprKind e ≡ 16 → planAssign ok levels at x e s ≡ plan levels at Bind x (exprNumber e) 0 16
   unfolding planAssign
-  plan-lit h = ap (λ a. planAssign levels at x a s) (kind-lit e h)
+  plan-lit h = ap (λ a. planAssign ok levels at x a s) (kind-lit e h)
 
-  pub plan-var : exprKind e ≡ 17 → planAssign levels at x e s ≡ plan levels at Bind x (lookup s (exprNumber e)) 0 16
+  pub plan-var : exprKind e ≡ 17 → planAssign ok levels at x e s ≡ plan levels at Bind x (lookup s (exprNumber e)) 0 16
   unfolding planAssign
-  plan-var h = ap (λ a. planAssign levels at x a s) (kind-var e h)
+  plan-var h = ap (λ a. planAssign ok levels at x a s) (kind-var e h)
 
-  pub plan-dec : exprKind e ≡ 19 → planAssign levels at x e s ≡ plan levels at Evaluate x (minusOne (lookup s (exprNumber e))) 0 0
+  pub plan-dec : exprKind e ≡ 19 → planAssign ok levels at x e s ≡ plan levels at Evaluate x (minusOne (lookup s (exprNumber e))) 0 0
   unfolding planAssign
-  plan-dec h = ap (λ a. planAssign levels at x a s) (kind-dec e h)
+  plan-dec h = ap (λ a. planAssign ok levels at x a s) (kind-dec e h)
 
   pub plan-inc : exprKind e ≡ 18
-      → planAssign levels at x e s ≡ planRaise levels at x (suc (lookup s (exprNumber e))) 0 (fitsWord (suc (lookup s (exprNumber e))))
+      → planAssign ok levels at x e s ≡ planRaise levels at x (suc (lookup s (exprNumber e))) 0 (ok (suc (lookup s (exprNumber e))))
   unfolding planAssign
-  plan-inc h = ap (λ a. planAssign levels at x a s) (kind-inc e h)
+  plan-inc h = ap (λ a. planAssign ok levels at x a s) (kind-inc e h)
 
 -- LOOPS
 
@@ -60,28 +62,28 @@ plan-unroll levels at x n (suc q) h = refl
 
 -- THE WHOLE PROGRAM, by what stands first at the path's end
 
-pub plan-empty : (P : Block) (s : List ℕ) → P ≡ empty → planOf P s ≡ plan 0 12 Finished 0 0 0 0
+pub plan-empty : (contents : ℕ) (ok : ℕ → Bool) (P : Block) (s : List ℕ) → P ≡ empty → planOf contents ok P s ≡ plan 0 (contents + 4) Finished 0 0 0 0
 unfolding planOf planSpot path spot
-plan-empty P s e = ap (λ b. planOf b s) e
+plan-empty contents ok P s e = ap (λ b. planOf contents ok b s) e ∙ ap (λ (n : ℕ). plan 0 n Finished 0 0 0 0) (omega arith)
 
-module _ (P : Block) (s : List ℕ) (levels at : ℕ) (l : levels ≡ length (path P)) (a : at ≡ 12 + 4 * levels) where
-  plan-spot : planOf P s ≡ planSpot levels at (spot P) s
+module _ (contents : ℕ) (ok : ℕ → Bool) (P : Block) (s : List ℕ) (levels at : ℕ) (l : levels ≡ length (path P)) (a : at ≡ contents + 4 + 4 * levels) where
+  plan-spot : planOf contents ok P s ≡ planSpot ok levels at (spot P) s
   unfolding planOf
   plan-spot =
-      let e : blockAt + 4 * length (path P) ≡ at = omega arith in
-      ap₂ (λ m n. planSpot m n (spot P) s) (sym l) e
+      let e : contents + 4 + 4 * length (path P) ≡ at = omega arith in
+      ap₂ (λ m n. planSpot ok m n (spot P) s) (sym l) e
 
-  pub plan-assign : (x : ℕ) (e : Expr) (r : Block) → spot P ≡ assign x e r → planOf P s ≡ planAssign levels at x e s
+  pub plan-assign : (x : ℕ) (e : Expr) (r : Block) → spot P ≡ assign x e r → planOf contents ok P s ≡ planAssign ok levels at x e s
   unfolding planSpot
-  plan-assign x e r q = plan-spot ∙ ap (λ b. planSpot levels at b s) q
+  plan-assign x e r q = plan-spot ∙ ap (λ b. planSpot ok levels at b s) q
 
-  pub plan-loop : (x : ℕ) (b : Bound) (c r : Block) → spot P ≡ loop x b c r → planOf P s ≡ planLoop levels at x (blockSize c) (boundValue s b)
+  pub plan-loop : (x : ℕ) (b : Bound) (c r : Block) → spot P ≡ loop x b c r → planOf contents ok P s ≡ planLoop levels at x (blockSize c) (boundValue s b)
   unfolding planSpot
-  plan-loop x b c r q = plan-spot ∙ ap (λ d. planSpot levels at d s) q
+  plan-loop x b c r q = plan-spot ∙ ap (λ d. planSpot ok levels at d s) q
 
-  pub plan-leave : (c r : Block) → spot P ≡ nest c r → planOf P s ≡ plan levels at Leave 0 0 0 4
+  pub plan-leave : (c r : Block) → spot P ≡ nest c r → planOf contents ok P s ≡ plan levels at Leave 0 0 0 4
   unfolding planSpot
-  plan-leave c r q = plan-spot ∙ ap (λ d. planSpot levels at d s) q
+  plan-leave c r q = plan-spot ∙ ap (λ d. planSpot ok levels at d s) q
 
 -- WHAT CODE READS of a known assignment and of a known loop
 
@@ -112,31 +114,32 @@ loop-read x b c r h =
 
 -- THE FIRST COMMAND at the path's end, of a program in a buffer
 
-pub record First (k : ℕ) (P : Block) (l : List ℕ) : Type 0 where
+pub record First (contents k : ℕ) (P : Block) (l : List ℕ) : Type 0 where
   pub some : 0 < blockSize P
-  pub whole : BlockAt l 12 P
-  pub here : BlockAt l (12 + 4 * length (path P)) (spot P)
+  pub whole : BlockAt l (contents + 4) P
+  pub here : BlockAt l (contents + 4 + 4 * length (path P)) (spot P)
   pub spot-some : 0 < blockSize (spot P)
   pub within : BlockWithin k (spot P)
 
-pub first-of : {k : ℕ} {P : Block} {l : List ℕ} {used : ℕ} → ProgramIn k P l used → length l ≤ 16384 → (used ≡ 12 → ⊥) → First k P l
-first-of {k} {P} {l} {used} h low n =
-    let s : 0 < blockSize P = positive (blockSize P) (λ z. n (sym (program-used h) ∙ omega arith)) in
-    let b = program-at h low in
+pub first-of : {contents : ℕ} {h : Header} {P : Block} {l : List ℕ} {used : ℕ} → ProgramIn h P l used → contentsAt h ≡ contents → length l ≤ 16384 → (used ≡ contents + 4 → ⊥)
+    → First contents (h .k) P l
+first-of {contents} {h} {P} {l} {used} p e low n =
+    let s : 0 < blockSize P = positive (blockSize P) (λ z. n (sym (program-used p) ∙ omega arith)) in
+    let b = subst (λ (m : ℕ). BlockAt l (m + 4) P) e (program-at p low) in
     record {
       some = s;
       whole = b;
       here = spot-at b;
       spot-some = spot-some (spot P) (spot-is P s);
-      within = plug-keeps blocks (BlockWithin k) (λ t r w. w .0) (path P) (spot P) (subst (BlockWithin k) (sym (plug-spot P)) (h .variables));
+      within = plug-keeps blocks (BlockWithin (h .k)) (λ t r w. w .0) (path P) (spot P) (subst (BlockWithin (h .k)) (sym (plug-spot P)) (p .variables));
     }
   where
     positive : (m : ℕ) → (m ≡ 0 → ⊥) → 0 < m
     positive zero f = absurd (f refl)
     positive (suc m) f = omega arith
 
-pub none-of : {k : ℕ} {P : Block} {l : List ℕ} {used : ℕ} → ProgramIn k P l used → used ≡ 12 → P ≡ empty
-none-of {k} {P} h e = blockSize-zero P (omega (arith, program-used h))
+pub none-of : {contents : ℕ} {h : Header} {P : Block} {l : List ℕ} {used : ℕ} → ProgramIn h P l used → contentsAt h ≡ contents → used ≡ contents + 4 → P ≡ empty
+none-of {contents} {h} {P} p q e = blockSize-zero P (omega (arith, program-used p))
 
 -- the assignment, the loop and the empty block by the kind read
 pub assign-within : (k x : ℕ) (e : Expr) (r b : Block) → b ≡ assign x e r → BlockWithin k b → ExprWithin k e

@@ -3,21 +3,21 @@ use Prim.Native.Nat.{ℕ, zero, suc, _+_, _*_}
 use mathlib.Core.List.{List}
 use lib.ListN.{length}
 use Rattle.rules.specs.Syntax.{Expr, lit, var, inc, dec, Block, empty, assign, loop, nest}
-use Rattle.rules.specs.Store.{fitsWord, minusOne, lookup}
+use mathlib.Core.Bool.{Bool}
+use Rattle.rules.specs.Store.{minusOne, lookup}
 use Rattle.rules.specs.Step.{boundValue}
 use Rattle.record.specs.Program.{blockSize}
 use Rattle.place.specs.Path.{path, spot}
-use Rattle.place.specs.Whole.{blockAt}
 use Rattle.plan.specs.Plan.{plan, planRaise}
 use Rattle.plan.specs.declared.Plan.{Plan}
 use Rattle.plan.specs.declared.Rule.the-variants.{Bind, Evaluate, Finished, Leave, Stop, Unroll}
 
 -- Of an assignment: its 16 bytes go where its value is stored, and a literal is as long as the expression that becomes it.
-unfoldable pub planAssign : ℕ → ℕ → ℕ → Expr → List ℕ → Plan
-planAssign levels at x (lit n) s = plan levels at Bind x n 0 16
-planAssign levels at x (var y) s = plan levels at Bind x (lookup s y) 0 16
-planAssign levels at x (inc y) s = planRaise levels at x (suc (lookup s y)) 0 (fitsWord (suc (lookup s y)))
-planAssign levels at x (dec y) s = plan levels at Evaluate x (minusOne (lookup s y)) 0 0
+unfoldable pub planAssign : (ℕ → Bool) → ℕ → ℕ → ℕ → Expr → List ℕ → Plan
+planAssign ok levels at x (lit n) s = plan levels at Bind x n 0 16
+planAssign ok levels at x (var y) s = plan levels at Bind x (lookup s y) 0 16
+planAssign ok levels at x (inc y) s = planRaise levels at x (suc (lookup s y)) 0 (ok (suc (lookup s y)))
+planAssign ok levels at x (dec y) s = plan levels at Evaluate x (minusOne (lookup s y)) 0 0
 
 -- A loop whose body's commands take n bytes, by the value of its bound: its record has 20 + n bytes, an empty block's 4, and
 -- the block that it becomes 40 + 2 n. The value is q + 1.
@@ -26,12 +26,13 @@ planLoop levels at x n zero = plan levels at Stop x 0 0 (16 + n)
 planLoop levels at x n (suc q) = plan levels at Unroll x (suc q) (20 + n) 0
 
 -- Of a block whose first command the rules act on.
-unfoldable pub planSpot : ℕ → ℕ → Block → List ℕ → Plan
-planSpot levels at empty s = plan levels at Finished 0 0 0 0
-planSpot levels at (assign x e r) s = planAssign levels at x e s
-planSpot levels at (loop x b body r) s = planLoop levels at x (blockSize body) (boundValue s b)
-planSpot levels at (nest b r) s = plan levels at Leave 0 0 0 4
+unfoldable pub planSpot : (ℕ → Bool) → ℕ → ℕ → Block → List ℕ → Plan
+planSpot ok levels at empty s = plan levels at Finished 0 0 0 0
+planSpot ok levels at (assign x e r) s = planAssign ok levels at x e s
+planSpot ok levels at (loop x b body r) s = planLoop levels at x (blockSize body) (boundValue s b)
+planSpot ok levels at (nest b r) s = plan levels at Leave 0 0 0 4
 
--- The plan of the next step of the program P with the store s.
-unfoldable pub planOf : Block → List ℕ → Plan
-planOf P s = planSpot (length (path P)) (blockAt + 4 * length (path P)) (spot P) s
+-- The plan of the next step of the program P with the store s: its commands stand behind the head of its block, where its
+-- record's contents start, and `ok` is the test for a value that is not too large.
+unfoldable pub planOf : ℕ → (ℕ → Bool) → Block → List ℕ → Plan
+planOf contents ok P s = planSpot ok (length (path P)) (contents + 4 + 4 * length (path P)) (spot P) s

@@ -6,6 +6,9 @@ ghost use lib.ListN.{length};
 ghost use Rattle.rules.specs.Syntax.{Block, Bound, Expr, assign, loop};
 ghost use Rattle.rules.specs.Scope.{BoundWithin, ExprWithin};
 ghost use Rattle.rules.specs.Step.{boundValue};
+ghost use Rattle.rules.specs.Store.{upTo};
+ghost use Rattle.record.specs.declared.Header.{Header};
+ghost use Rattle.record.specs.Header.{contentsAt};
 ghost use Rattle.record.specs.Program.{blockSize, boundKind, boundNumber};
 ghost use Rattle.record.specs.Holding.{ProgramIn};
 ghost use Rattle.place.specs.Path.{opensAt, path};
@@ -23,9 +26,6 @@ use record::kind::LOOP;
 use record::kind::MINUS_ONE;
 use record::kind::VARIABLE;
 
-// Where the commands of a program's block start: behind the header and the head of that block.
-const COMMANDS: usize = record::HEADER_LENGTH + 4;
-
 // Whether a block with commands in it begins at p.
 fn opens(buf: &[u8], p: usize) -> bool
     requires { ⌜ p + 4 ≤ length (now buf) ⌝ }
@@ -38,13 +38,13 @@ fn opens(buf: &[u8], p: usize) -> bool
     }
 }
 
-// How many blocks are open around the command that the rules act on.
-fn open_levels(buf: &[u8]) -> usize
-    requires { ⌜ ((P : Block) × (BlockAt (now buf) 12 P × (0 < blockSize P))) ⌝ }
-    ensures { λ r. ⌜ ((P : Block) → BlockAt (now (buf .entry)) 12 P → 0 < blockSize P → r ≡ length (path P)) ⌝ }
+// How many blocks are open around the command that the rules act on. The commands start at `start`.
+fn open_levels(buf: &[u8], start: usize) -> usize
+    requires { ⌜ ((P : Block) × (BlockAt (now buf) start P × (0 < blockSize P))) ⌝ }
+    ensures { λ r. ⌜ ((P : Block) → BlockAt (now (buf .entry)) start P → 0 < blockSize P → r ≡ length (path P)) ⌝ }
 {
     let mut levels = 0;
-    while opens(buf, COMMANDS + 4 * levels) {
+    while opens(buf, start + 4 * levels) {
         levels += 1;
     }
     levels
@@ -66,9 +66,9 @@ fn look_store(at: usize, levels: usize, variable: u32, value: u32) -> Plan
 }
 
 // The plan of an assignment at index at.
-fn look_assign(buf: &[u8], at: usize, levels: usize, store: &[u32]) -> Plan
+fn look_assign(buf: &[u8], at: usize, levels: usize, store: &[u32], largest: u32) -> Plan
     requires { ⌜ ((x : ℕ) × ((e : Expr) × ((r : Block) × (BlockAt (now buf) at (assign x e r) × ExprWithin (length (now store)) e)))) ⌝ }
-    ensures { λ p. ⌜ ((x : ℕ) (e : Expr) (r : Block) → BlockAt (now (buf .entry)) at (assign x e r) → ExprWithin (length (now (store .entry))) e → p ≡ planAssign levels at x e (now (store .entry))) ⌝ }
+    ensures { λ p. ⌜ ((x : ℕ) (e : Expr) (r : Block) → BlockAt (now (buf .entry)) at (assign x e r) → ExprWithin (length (now (store .entry))) e → p ≡ planAssign (upTo largest) levels at x e (now (store .entry))) ⌝ }
 {
     let variable = buffer::get_u32(buf, at + 4);
     let kind = buffer::get_u16(buf, at + 10);
@@ -92,7 +92,7 @@ fn look_assign(buf: &[u8], at: usize, levels: usize, store: &[u32]) -> Plan
             down: 0,
         };
     }
-    raise(at, levels, variable, value, 0)
+    raise(at, levels, variable, value, 0, largest)
 }
 
 // The value of a loop's bound, a literal or a variable.
@@ -139,27 +139,29 @@ fn look_loop(buf: &[u8], at: usize, levels: usize, store: &[u32]) -> Plan
     }
 }
 
-// The plan of the next step.
-pub fn look(buf: &[u8], used: usize, store: &[u32]) -> Plan
-    requires { ⌜ ((k : ℕ) × ((P : Block) × (ProgramIn k P (now buf) used × ((length (now buf) ≤ 16384) × (length (now store) ≡ k))))) ⌝ }
-    ensures { λ p. ⌜ ((k : ℕ) (P : Block) → ProgramIn k P (now (buf .entry)) used → length (now (store .entry)) ≡ k → p ≡ planOf P (now (store .entry))) ⌝ }
+// The plan of the next step of a program whose contents start at `contents`, with values up to `largest`. Its commands stand
+// behind the head of its block.
+pub fn look(buf: &[u8], used: usize, store: &[u32], contents: usize, largest: u32) -> Plan
+    requires { ⌜ ((h : Header) × ((P : Block) × (ProgramIn h P (now buf) used × ((length (now buf) ≤ 16384) × ((length (now store) ≡ h .k) × (contentsAt h ≡ contents)))))) ⌝ }
+    ensures { λ p. ⌜ ((h : Header) (P : Block) → ProgramIn h P (now (buf .entry)) used → length (now (store .entry)) ≡ h .k → contentsAt h ≡ contents → p ≡ planOf contents (upTo largest) P (now (store .entry))) ⌝ }
 {
-    if used == COMMANDS {
+    let start = contents + 4;
+    if used == start {
         return Plan {
             rule: Rule::Finished,
             levels: 0,
-            at: COMMANDS,
+            at: start,
             variable: 0,
             value: 0,
             up: 0,
             down: 0,
         };
     }
-    let levels = open_levels(buf);
-    let at = COMMANDS + 4 * levels;
+    let levels = open_levels(buf, start);
+    let at = start + 4 * levels;
     let kind = buffer::get_u16(buf, at + 2);
     if kind == ASSIGNMENT {
-        return look_assign(buf, at, levels, store);
+        return look_assign(buf, at, levels, store, largest);
     }
     if kind == LOOP {
         return look_loop(buf, at, levels, store);

@@ -5,16 +5,18 @@ ghost use Prim.Native.Nat.{_+_, _*_, _-_, _≤_};
 ghost use lib.ListN.{length};
 ghost use Rattle.buffer.specs.LittleEndian.{le, val};
 ghost use Rattle.buffer.specs.Slice.{part, put};
-ghost use Rattle.record.specs.Header.{contentsAt};
 ghost use Rattle.place.specs.Edit.{lead, leafBytes, removed, spread};
 ghost use Rattle.place.specs.Heads.{recordHead, shifted};
-ghost use Rattle.place.specs.Whole.{relengthAll};
+ghost use Rattle.place.specs.Whole.{header, relengthAll};
+ghost use Rattle.record.specs.Header.{contentsAt};
 use buffer::get_u16;
 use buffer::put_u16;
 use buffer::put_u32;
 use buffer::zero;
 use moves::move_down;
 use moves::move_up;
+use record::Header;
+use record::Sort;
 
 // The first four bytes of a record of n bytes.
 pub fn put_head(buf: &mut [u8], at: usize, kind: usize, n: usize)
@@ -23,6 +25,15 @@ pub fn put_head(buf: &mut [u8], at: usize, kind: usize, n: usize)
 {
     put_u16(buf, at, n);
     put_u16(buf, at + 2, kind);
+}
+
+// What stands in front of the contents of a record of n bytes.
+pub fn put_header(buf: &mut [u8], sort: Sort, h: Header, n: usize)
+    requires { ⌜ contentsAt h ≤ length (now buf) ⌝ }
+    ensures { λ _. ⌜ now (buf .exit) ≡ put (now (buf .entry)) 0 (header sort h n) ⌝ }
+{
+    put_head(buf, 0, h.kind_of(sort), n);
+    h.put_fields(buf);
 }
 
 // A record that holds one number: an expression, a bound or an atom.
@@ -75,15 +86,15 @@ fn adjust(buf: &mut [u8], at: usize, up: usize, down: usize)
     }
 }
 
-// The header's length, and those of so many levels of the contents.
-pub fn relength(buf: &mut [u8], count: usize, up: usize, down: usize)
-    requires { ⌜ (contentsAt + 4 * count ≤ length (now buf)) × (up ≤ 16384) ⌝ }
-    ensures { λ _. ⌜ now (buf .exit) ≡ relengthAll (shifted up down) count (now (buf .entry)) ⌝ }
+// The header's length, and those of so many levels of the contents, which start at `start`.
+pub fn relength(buf: &mut [u8], start: usize, count: usize, up: usize, down: usize)
+    requires { ⌜ (2 ≤ start) × (start + 4 * count ≤ length (now buf)) × (up ≤ 16384) ⌝ }
+    ensures { λ _. ⌜ now (buf .exit) ≡ relengthAll (shifted up down) start count (now (buf .entry)) ⌝ }
 {
     adjust(buf, 0, up, down);
     let mut i = 0;
     while i < count {
-        adjust(buf, record::HEADER_LENGTH + 4 * i, up, down);
+        adjust(buf, start + 4 * i, up, down);
         i += 1;
     }
 }

@@ -9,14 +9,13 @@ use Rattle.buffer.specs.LittleEndian.{le, val}
 use Rattle.buffer.specs.Slice.{part, put}
 use Rattle.record.specs.Term.{encodeAtom, encodeAtoms}
 use Rattle.rules.specs.Scope.{AtomWithin}
-use Rattle.rules.specs.Store.{wordLimit}
 use Rattle.rules.specs.Substitution.{Substitution, orRef, substituteAtom}
 use Rattle.rules.specs.Syntax.{Atom, num, ref}
 use Rattle.place.proofs.AtLaws.{put-same}
 use Rattle.place.proofs.TermSubstitutionLaws.{num-stored, onward-row, row-empty}
 use Rattle.place.proofs.TermViewLaws.{as-num, as-ref, atom-kind, atom-view}
 use Rattle.filling.specs.Ranged.{RangedAtom, RangedAtoms}
-use Rattle.numerals.specs.Values.{substitutionOf}
+use Rattle.numerals.specs.Values.{stays, substitutionOf}
 use Rattle.filling.proofs.RangedLaws.{Row, ranged-first}
 use Rattle.numerals.proofs.ValuesLaws.{value-none, value-some}
 
@@ -52,13 +51,13 @@ module _ {l : List ℕ} {p : ℕ} {a : Atom} (h : RangedAtom l p a) where
       sym (ap (λ (y : Atom). put l p (encodeAtom y)) (ap (substituteAtom f) is ∙ substitute-num f (val (part l (p + 4) 4)) ∙ sym is) ∙ put-same (h .here .here))
 
   module _ (w : List ℕ) (v : ℕ) (long : length w ≡ 17) (kind : val (part l (p + 2) 2) ≡ 33) (read : v ≡ getD w (val (part l (p + 4) 4)) 0) where
-    pub atom-stored : v < wordLimit → put (put l (p + 2) (le 2 32)) (p + 4) (le 4 v) ≡ put l p (encodeAtom (substituteAtom (substitutionOf w) a))
+    pub atom-stored : v < stays → put (put l (p + 2) (le 2 32)) (p + 4) (le 4 v) ≡ put l p (encodeAtom (substituteAtom (substitutionOf w) a))
     atom-stored b =
         let s = value-some w (val (part l (p + 4) 4)) v (omega (arith, ranged-low kind)) read b in
         num-stored (h .here) v
         ∙ ap (λ (y : Atom). put l p (encodeAtom y)) (sym (ap (substituteAtom (substitutionOf w)) (as-ref (h .here) kind) ∙ substitute-some (substitutionOf w) (val (part l (p + 4) 4)) v s))
 
-    pub atom-stays : wordLimit ≤ v → l ≡ put l p (encodeAtom (substituteAtom (substitutionOf w) a))
+    pub atom-stays : stays ≤ v → l ≡ put l p (encodeAtom (substituteAtom (substitutionOf w) a))
     atom-stays b =
         let s = value-none w (val (part l (p + 4) 4)) v (omega (arith, ranged-low kind)) read b in
         let is = as-ref (h .here) kind in

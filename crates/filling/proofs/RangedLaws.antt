@@ -9,16 +9,17 @@ use lib.ListN.{length}
 use native.Mathlib.Omega.{arith}
 use Rattle.buffer.specs.LittleEndian.{val}
 use Rattle.buffer.specs.Slice.{part}
+use Rattle.record.specs.declared.Header.{Header}
+use Rattle.record.specs.Header.{contentsAt, okOf}
 use Rattle.record.specs.Holding.{TermIn}
 use Rattle.record.specs.Term.{simpleSize}
 use Rattle.rules.specs.FreeVariables.{Vars, adding, allVars, atomOfSimple}
 use Rattle.rules.specs.Scope.{AtomWithin, AtomsWithin, SimpleWithin, TermWithin}
 use Rattle.rules.specs.Sound.{SoundAtom, SoundAtoms, SoundSimple, SoundTerm}
-use Rattle.rules.specs.Store.{fitsWord}
 use Rattle.rules.specs.Syntax.{Atom, Simple, Term, letAll, letOne, num, plain, predOf, rec, ref, succOf, tuple}
 use Rattle.place.specs.TermView.{LetAllView, LetOneView, RecView, TupleView}
+use Rattle.place.proofs.WholeLaws.{term-from}
 use Rattle.place.proofs.TermBytesLaws.{simple-high, simple-low}
-use Rattle.place.proofs.TermRecordLaws.{record-at}
 use Rattle.place.proofs.TermViewLaws.{as-letAll, as-letOne, as-rec, as-tuple, atom-index, atom-view, atoms-first, atoms-room, term-kind, term-room}
 use Rattle.filling.specs.BoundAtom.{boundAtom, boundAtomIf}
 use Rattle.filling.specs.Ranged.{RangedAtom, RangedAtoms, RangedTerm}
@@ -163,5 +164,6 @@ sound-ranged ok k S (letAll t u) h s = (sound-ranged ok k S t h (s .0), sound-ra
 sound-ranged ok k S (rec x a ys t) h s =
     ((s .0 .0, omega (arith, s .0 .1)), atom-ranged ok k S a h (s .1), atoms-ranged ok k S ys h (s .3), sound-ranged ok k allVars t h (s .4))
 
-pub record-ranged : {S : Vars} {k : ℕ} {t : Term} {buf : List ℕ} {used : ℕ} → TermIn S k t buf used → length buf ≤ 16384 → RangedTerm buf 8 k t
-record-ranged {S} {k} {t} h l = record { here = record-at h l; range = sound-ranged fitsWord k S t (h .k-high) (h .sound) }
+pub record-ranged : {S : Vars} {h : Header} {t : Term} {buf : List ℕ} {used : ℕ} → TermIn S h t buf used → length buf ≤ 16384
+    → {n : ℕ} → n ≡ contentsAt h → RangedTerm buf n (h .k) t
+record-ranged {S} {h} {t} p l e = record { here = term-from p l e; range = sound-ranged (okOf h) (h .k) S t (p .header .k-high) (p .sound) }

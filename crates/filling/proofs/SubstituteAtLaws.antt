@@ -8,13 +8,12 @@ use Rattle.buffer.specs.LittleEndian.{val}
 use Rattle.buffer.specs.Slice.{part, put}
 use Rattle.record.specs.Term.{encodeAtom, encodeAtoms, encodeTermRecord, simpleSize}
 use Rattle.rules.specs.FreeVariables.{atomOfSimple}
-use Rattle.rules.specs.Store.{wordLimit}
 use Rattle.rules.specs.Substitution.{Substitution, except, substitute, substituteAtom}
 use Rattle.rules.specs.Syntax.{Atom, Term, tuple}
 use Rattle.place.proofs.TermSubstitutionLaws.{onward-letAll, onward-letOne, onward-rec, onward-tuple}
 use Rattle.filling.specs.BoundAtom.{boundAtom}
 use Rattle.filling.specs.Ranged.{RangedAtom, RangedTerm}
-use Rattle.numerals.specs.Values.{substitutionOf}
+use Rattle.numerals.specs.Values.{stays, substitutionOf}
 use Rattle.filling.proofs.RangedLaws.{RangedLetAll, RangedLetOne, RangedRec, RangedTuple, letOne-atom}
 use Rattle.numerals.proofs.ValuesLaws.{values-except}
 
@@ -43,10 +42,10 @@ module _ {w l : List ℕ} {p k : ℕ} {to : List ℕ} (s : Todo w l p k to) wher
 
   module _ (v : RangedLetOne l p k (s .term)) (long : length w ≡ 17) where
     letOne-onward : (l₁ : List ℕ) → l₁ ≡ put l (p + simpleSize (v .view .bound)) (encodeAtom (substituteAtom (substitutionOf w) (atomOfSimple (v .view .bound))))
-        → Todo (set w (v .view .variable) wordLimit) l₁ (p + simpleSize (v .view .bound) + 8) k to
+        → Todo (set w (v .view .variable) stays) l₁ (p + simpleSize (v .view .bound) + 8) k to
     letOne-onward l₁ e =
         let o = onward-letOne (substitutionOf w) (s .here .here) (v .view) l₁ e in
-        let f : substitutionOf (set w (v .view .variable) wordLimit) ≡ except (v .view .variable) (substitutionOf w) =
+        let f : substitutionOf (set w (v .view .variable) stays) ≡ except (v .view .variable) (substitutionOf w) =
         values-except w (v .view .variable) (omega (arith, v .low)) in
         record {
           term = v .view .last;
@@ -57,10 +56,10 @@ module _ {w l : List ℕ} {p k : ℕ} {to : List ℕ} (s : Todo w l p k to) wher
     -- with the variable and the atom's place as they were read
     pub letOne-next : (x : ℕ) → x ≡ val (part l (p + 4) 4) → (q : ℕ) → q ≡ boundAtom l p
         → (l₁ : List ℕ) → ((a : Atom) → RangedAtom l q a → l₁ ≡ put l q (encodeAtom (substituteAtom (substitutionOf w) a)))
-        → Todo (set w x wordLimit) l₁ (q + 8) k to
+        → Todo (set w x stays) l₁ (q + 8) k to
     letOne-next x ex q eq l₁ e =
         let a : Atom = atomOfSimple (v .view .bound) in
         let z : q ≡ p + simpleSize (v .view .bound) = eq ∙ v .place in
         let e₁ = e a (letOne-atom v q eq) ∙ ap (λ (n : ℕ). put l n (encodeAtom (substituteAtom (substitutionOf w) a))) z in
-        subst (λ (n : ℕ). Todo (set w n wordLimit) l₁ (q + 8) k to) (sym (ex ∙ v .view .variable-read))
-        (subst (λ (n : ℕ). Todo (set w (v .view .variable) wordLimit) l₁ (n + 8) k to) (sym z) (letOne-onward l₁ e₁))
+        subst (λ (n : ℕ). Todo (set w n stays) l₁ (q + 8) k to) (sym (ex ∙ v .view .variable-read))
+        (subst (λ (n : ℕ). Todo (set w (v .view .variable) stays) l₁ (n + 8) k to) (sym z) (letOne-onward l₁ e₁))

@@ -12,7 +12,7 @@ ghost use Rattle.filling.specs.Ranged.{RangedAtom, RangedAtoms, RangedTe
 use crate::path::bound_atom;
 use buffer::get_u16;
 use buffer::get_u32;
-use record::HEADER_LENGTH;
+use record::Header;
 use record::kind::LET_ALL;
 use record::kind::LET_ONE;
 use record::kind::REFERENCE;
@@ -73,9 +73,9 @@ fn closed_at(buf: &[u8], at: usize, k: u32) -> bool
     }
 }
 
-pub fn is_closed(buf: &[u8], used: usize, k: u32) -> bool
-    requires { ⌜ ((t : Term) × TermIn allVars k t (now buf) used) × (length (now buf) ≤ 16384) ⌝ }
-    ensures { λ r. ⌜ ((t : Term) → TermIn allVars k t (now (buf .entry)) used → r ≡ closed t) ⌝ }
+pub fn is_closed(buf: &[u8], used: usize, h: Header) -> bool
+    requires { ⌜ ((t : Term) × TermIn allVars h t (now buf) used) × (length (now buf) ≤ 16384) ⌝ }
+    ensures { λ r. ⌜ ((t : Term) → TermIn allVars h t (now (buf .entry)) used → r ≡ closed t) ⌝ }
 {
-    closed_at(buf, HEADER_LENGTH, k)
+    closed_at(buf, h.contents_at(), h.k)
 }

@@ -21,7 +21,7 @@ use buffer::put_u32;
 use buffer::zero;
 use numerals::values::STAYS;
 use numerals::values::from_store;
-use record::HEADER_LENGTH;
+use record::Header;
 use record::kind::LET_ALL;
 use record::kind::LET_ONE;
 use record::kind::NUMERAL;
@@ -85,11 +85,11 @@ pub fn substitute_at(buf: &mut [u8], at: usize, k: u32, values: [u64; 17])
 }
 
 // A record as the call has it: the bytes behind it become zero.
-pub fn substitute_record(buf: &mut [u8], used: usize, k: u32, store: &[u32])
-    requires { ⌜ ((t : Term) × TermIn allVars k t (now buf) used) × (length (now buf) ≤ 16384) × (length (now store) ≡ k) ⌝ }
-    ensures { λ _. ⌜ ((t : Term) → TermIn allVars k t (now (buf .entry)) used → now (buf .exit) ≡ padded (length (now (buf .entry))) (encodeTerm k (substitute (fromStore (now (store .entry))) t))) ⌝ }
+pub fn substitute_record(buf: &mut [u8], used: usize, h: Header, store: &[u32])
+    requires { ⌜ ((t : Term) × TermIn allVars h t (now buf) used) × (length (now buf) ≤ 16384) × (length (now store) ≡ h .k) ⌝ }
+    ensures { λ _. ⌜ ((t : Term) → TermIn allVars h t (now (buf .entry)) used → now (buf .exit) ≡ padded (length (now (buf .entry))) (encodeTerm h (substitute (fromStore (now (store .entry))) t))) ⌝ }
 {
-    substitute_at(buf, HEADER_LENGTH, k, from_store(store));
+    substitute_at(buf, h.contents_at(), h.k, from_store(store));
     let behind = buf.len() - used;
     zero(buf, used, behind);
 }

@@ -5,17 +5,19 @@ use mathlib.Core.List.{List, [], append-nil, map}
 use lib.ListN.{getD, length, set}
 use native.Mathlib.Omega.{arith}
 use Rattle.buffer.specs.Slice.{part, put}
+use Rattle.record.specs.declared.Header.{Header}
+use Rattle.record.specs.Header.{contentsAt}
 use Rattle.record.specs.Holding.{TermIn}
 use Rattle.rules.specs.FreeVariables.{Vars}
 use Rattle.rules.specs.Syntax.{num, tuple}
 use Rattle.buffer.proofs.SliceLaws.{copied-next, part-re, put-nil, put-re}
 use Rattle.place.specs.TermView.{AtomsAt}
+use Rattle.place.proofs.WholeLaws.{term-from}
 use Rattle.place.proofs.NumeralsLaws.{numerals-row}
-use Rattle.place.proofs.TermRecordLaws.{record-at}
 
-pub record-row : {S : Vars} {k : ℕ} (vs : List ℕ) {buf : List ℕ} {used : ℕ} → TermIn S k (tuple (map num vs)) buf used → length buf ≤ 16384
-    → AtomsAt buf 12 (map num vs) × (length vs ≡ k)
-record-row vs h l = numerals-row vs (record-at h l)
+pub record-row : {S : Vars} {h : Header} (vs : List ℕ) {buf : List ℕ} {used : ℕ} → TermIn S h (tuple (map num vs)) buf used → length buf ≤ 16384
+    → {n : ℕ} → n ≡ contentsAt h → AtomsAt buf (n + 4) (map num vs) × (length vs ≡ h .k)
+record-row vs p l e = numerals-row vs (term-from p l e)
 
 -- of the store d, b is what i turns leave
 pub copied-none : (d vs : List ℕ) → d ≡ put d 0 (part vs 0 0)

@@ -10,9 +10,8 @@ use lib.ListN.{getD, getElem?, length, length-replicate, replicate, set, take}
 use lib.Seq.{getD-set-other, getD-set-same, take-all}
 use native.Mathlib.Numerals.{add-one}
 use native.Mathlib.Omega.{arith}
-use Rattle.rules.specs.Store.{wordLimit}
 use Rattle.rules.specs.Substitution.{except, fromStore, only}
-use Rattle.numerals.specs.Values.{substitutionOf, valueIf}
+use Rattle.numerals.specs.Values.{stays, substitutionOf, valueIf}
 
 -- WHAT IS READ
 
@@ -21,47 +20,47 @@ getD-default [] i d e h = absurd (omega arith)
 getD-default (y ∷ w) zero d e h = refl
 getD-default (y ∷ w) (suc i) d e h = getD-default w i d e (omega arith)
 
-pub value-some : (w : List ℕ) (x v : ℕ) → x < length w → v ≡ getD w x 0 → v < wordLimit → substitutionOf w x ≡ some v
+pub value-some : (w : List ℕ) (x v : ℕ) → x < length w → v ≡ getD w x 0 → v < stays → substitutionOf w x ≡ some v
 unfolding substitutionOf valueIf
-value-some w x v h e f = rw (getD-default w x wordLimit 0 h, ← e, lt-ltb v wordLimit f)
+value-some w x v h e f = rw (getD-default w x stays 0 h, ← e, lt-ltb v stays f)
 
-pub value-none : (w : List ℕ) (x v : ℕ) → x < length w → v ≡ getD w x 0 → wordLimit ≤ v → substitutionOf w x ≡ none
+pub value-none : (w : List ℕ) (x v : ℕ) → x < length w → v ≡ getD w x 0 → stays ≤ v → substitutionOf w x ≡ none
 unfolding substitutionOf valueIf
-value-none w x v h e f = rw (getD-default w x wordLimit 0 h, ← e, le-ltb v wordLimit f)
+value-none w x v h e f = rw (getD-default w x stays 0 h, ← e, le-ltb v stays f)
 
 -- WHAT A STORE DOES
 
-value-same : (w : List ℕ) (x v : ℕ) → x < length w → v < wordLimit → substitutionOf (set w x v) x ≡ some v
+value-same : (w : List ℕ) (x v : ℕ) → x < length w → v < stays → substitutionOf (set w x v) x ≡ some v
 unfolding substitutionOf valueIf
-value-same w x v h f = rw (getD-set-same w x v wordLimit h, lt-ltb v wordLimit f)
+value-same w x v h f = rw (getD-set-same w x v stays h, lt-ltb v stays f)
 
-value-gone : (w : List ℕ) (x : ℕ) → x < length w → substitutionOf (set w x wordLimit) x ≡ none
+value-gone : (w : List ℕ) (x : ℕ) → x < length w → substitutionOf (set w x stays) x ≡ none
 unfolding substitutionOf valueIf
-value-gone w x h = rw (getD-set-same w x wordLimit wordLimit h) refl
+value-gone w x h = rw (getD-set-same w x stays stays h) refl
 
 value-other : (w : List ℕ) (x y v : ℕ) → (y ≡ x → ⊥) → substitutionOf (set w x v) y ≡ substitutionOf w y
 unfolding substitutionOf
-value-other w x y v h = rw (getD-set-other w x y v wordLimit h)
+value-other w x y v h = rw (getD-set-other w x y v stays h)
 
-except-at : (w : List ℕ) (x : ℕ) → x < length w → (y : ℕ) (b : Bool) → eqb y x ≡ b → substitutionOf (set w x wordLimit) y ≡ cond b none (substitutionOf w y)
-except-at w x h y true e = ap (substitutionOf (set w x wordLimit)) (eqb-true y x e) ∙ value-gone w x h
-except-at w x h y false e = value-other w x y wordLimit (eqb-false y x e)
+except-at : (w : List ℕ) (x : ℕ) → x < length w → (y : ℕ) (b : Bool) → eqb y x ≡ b → substitutionOf (set w x stays) y ≡ cond b none (substitutionOf w y)
+except-at w x h y true e = ap (substitutionOf (set w x stays)) (eqb-true y x e) ∙ value-gone w x h
+except-at w x h y false e = value-other w x y stays (eqb-false y x e)
 
 -- a variable taken out
-pub values-except : (w : List ℕ) (x : ℕ) → x < length w → substitutionOf (set w x wordLimit) ≡ except x (substitutionOf w)
+pub values-except : (w : List ℕ) (x : ℕ) → x < length w → substitutionOf (set w x stays) ≡ except x (substitutionOf w)
 unfolding except
 values-except w x h = fun-ext λ y. except-at w x h y (eqb y x) refl
 
 -- ARRAYS THAT ARE BUILT
 
 unfoldable pub blank : List ℕ
-blank = replicate 17 wordLimit
+blank = replicate 17 stays
 
 pub length-blank : length blank ≡ 17
 unfolding blank
-length-blank = length-replicate 17 wordLimit
+length-blank = length-replicate 17 stays
 
-getD-stays : (n i : ℕ) → getD (replicate n wordLimit) i wordLimit ≡ wordLimit
+getD-stays : (n i : ℕ) → getD (replicate n stays) i stays ≡ stays
 getD-stays zero i = refl
 getD-stays (suc n) zero = refl
 getD-stays (suc n) (suc i) = getD-stays n i
@@ -71,11 +70,11 @@ unfolding substitutionOf valueIf blank
 value-blank y = rw (getD-stays 17 y) refl
 
 -- one variable
-only-at : (x v : ℕ) → x < 17 → v < wordLimit → (y : ℕ) (b : Bool) → eqb y x ≡ b → substitutionOf (set blank x v) y ≡ cond b (some v) none
+only-at : (x v : ℕ) → x < 17 → v < stays → (y : ℕ) (b : Bool) → eqb y x ≡ b → substitutionOf (set blank x v) y ≡ cond b (some v) none
 only-at x v h f y true e = ap (substitutionOf (set blank x v)) (eqb-true y x e) ∙ value-same blank x v (omega (arith, length-blank)) f
 only-at x v h f y false e = value-other blank x y v (eqb-false y x e) ∙ value-blank y
 
-pub values-only : (x v u : ℕ) → x < 17 → u ≡ v → u < wordLimit → substitutionOf (set blank x u) ≡ only x v
+pub values-only : (x v u : ℕ) → x < 17 → u ≡ v → u < stays → substitutionOf (set blank x u) ≡ only x v
 unfolding only
 values-only x v u h e f = rw e (fun-ext λ y. only-at x v h (omega arith) y (eqb y x) refl)
 
@@ -101,7 +100,7 @@ built-none s = fun-ext λ y. value-blank y ∙ sym (go y)
     go zero = refl
     go (suc j) = refl
 
-pub built-next : (s w : List ℕ) (i v : ℕ) → length w ≡ 17 → i < length s → length s ≤ 16 → v ≡ getD s i 0 → v < wordLimit
+pub built-next : (s w : List ℕ) (i v : ℕ) → length w ≡ 17 → i < length s → length s ≤ 16 → v ≡ getD s i 0 → v < stays
     → substitutionOf w ≡ fromStore (take i s) → substitutionOf (set w (i + 1) v) ≡ fromStore (take (i + 1) s)
 unfolding fromStore
 built-next s w i v n h m e f b = rw (add-one i) (fun-ext λ y. go y)

@@ -10,16 +10,16 @@ ghost use Rattle.rules.specs.FreeVariables.{allVars, noVars};
 ghost use Rattle.rules.specs.Syntax.{Term, num, tuple};
 use buffer::get_u16;
 use buffer::get_u32;
-use record::HEADER_LENGTH;
+use record::Header;
 use record::kind::TUPLE;
 
 pub mod values;
 
-pub fn is_finished(buf: &[u8], used: usize) -> bool
-    requires { ⌜ ((k : ℕ) × ((t : Term) × TermIn allVars k t (now buf) used)) × (length (now buf) ≤ 16384) ⌝ }
-    ensures { λ r. ⌜ ((k : ℕ) (t : Term) → TermIn allVars k t (now (buf .entry)) used → r ≡ finishedTerm t) ⌝ }
+pub fn is_finished(buf: &[u8], used: usize, h: Header) -> bool
+    requires { ⌜ ((t : Term) × TermIn allVars h t (now buf) used) × (length (now buf) ≤ 16384) ⌝ }
+    ensures { λ r. ⌜ ((t : Term) → TermIn allVars h t (now (buf .entry)) used → r ≡ finishedTerm t) ⌝ }
 {
-    get_u16(buf, HEADER_LENGTH + 2) == TUPLE
+    get_u16(buf, h.contents_at() + 2) == TUPLE
 }
 
 // The numeral number i of the row of atoms at an index.
@@ -30,13 +30,14 @@ fn numeral(buf: &[u8], at: usize, i: usize) -> u32
     get_u32(buf, at + 8 * i + 4)
 }
 
-pub fn copy_numerals(buf: &[u8], used: usize, k: u32, store: &mut [u32])
-    requires { ⌜ ((vs : List ℕ) × TermIn noVars k (tuple (map num vs)) (now buf) used) × (length (now buf) ≤ 16384) × (length (now store) ≡ k) ⌝ }
-    ensures { λ _. ⌜ ((vs : List ℕ) → TermIn noVars k (tuple (map num vs)) (now (buf .entry)) used → now (store .exit) ≡ vs) ⌝ }
+pub fn copy_numerals(buf: &[u8], used: usize, h: Header, store: &mut [u32])
+    requires { ⌜ ((vs : List ℕ) × TermIn noVars h (tuple (map num vs)) (now buf) used) × (length (now buf) ≤ 16384) × (length (now store) ≡ h .k) ⌝ }
+    ensures { λ _. ⌜ ((vs : List ℕ) → TermIn noVars h (tuple (map num vs)) (now (buf .entry)) used → now (store .exit) ≡ vs) ⌝ }
 {
+    let atoms = h.contents_at() + 4;
     let mut i = 0;
     while i < store.len() {
-        store[i] = numeral(buf, HEADER_LENGTH + 4, i);
+        store[i] = numeral(buf, atoms, i);
         i += 1;
     }
 }

@@ -4,18 +4,17 @@ ghost use mathlib.Core.List.{List, map};
 ghost use Prim.Native.Nat.{ℕ, _<_, _≤_};
 ghost use lib.ListN.{length};
 ghost use Rattle.place.specs.TermView.{TermAt};
-ghost use Rattle.rules.specs.Store.{wordLimit};
 ghost use Rattle.rules.specs.Substitution.{fromStore, only as onlyOf};
 ghost use Rattle.rules.specs.Syntax.{num, tuple};
-ghost use Rattle.numerals.specs.Values.{substitutionOf};
+ghost use Rattle.numerals.specs.Values.{stays, substitutionOf};
 use crate::numeral;
 
-// Above every value: a variable with this number stays.
+// Above every number of 4 bytes: a variable with this number stays.
 pub const STAYS: u64 = 4294967296;
 
 // A cast through a function: its contract brings the bound.
 fn wide64(x: u32) -> u64
-    ensures { λ r. ⌜ (r ≡ x) × (r < wordLimit) ⌝ }
+    ensures { λ r. ⌜ (r ≡ x) × (r < stays) ⌝ }
 {
     x as u64
 }

@@ -13,11 +13,8 @@ pub mod UnrolledLaws
 pub mod ProgramEditLaws
 pub mod TermEditLaws
 pub mod TermPutLaws
-pub mod ProgramRecordLaws
 pub mod SourceKindLaws
 pub mod TermSubstitutionLaws
-pub mod TermRecordLaws
 pub mod NumeralsLaws
-pub mod RecordPlaceLaws
 pub mod TranslatedLaws
 pub mod ProgramNumberLaws

@@ -2,7 +2,7 @@
 // they run in lock step: a rule of the one is a rule of the other.
 ghost use mathlib.Core.Path.{_≡_};
 ghost use Prim.Native.Nat.{suc, _≤_};
-ghost use Rattle.rules.specs.Store.{fitsWord};
+ghost use Rattle.rules.specs.Store.{upTo};
 ghost use Rattle.run.specs.Represents.{asOutcome};
 ghost use Rattle.plan.specs.Plan.{planRaise, planReads};
 use run::Outcome;
@@ -39,14 +39,11 @@ pub struct Plan {
     pub down: usize,
 }
 
-// Plus one of it is too large.
-const LARGEST_VALUE: u32 = 4294967295;
-
 // The plan of plus one, or succ, of this value: `down` bytes go where it becomes the literal or numeral.
-pub fn raise(at: usize, levels: usize, variable: u32, value: u32, down: usize) -> Plan
-    ensures { λ p. ⌜ p ≡ planRaise levels at variable (suc value) down (fitsWord (suc value)) ⌝ }
+pub fn raise(at: usize, levels: usize, variable: u32, value: u32, down: usize, largest: u32) -> Plan
+    ensures { λ p. ⌜ p ≡ planRaise levels at variable (suc value) down (upTo largest (suc value)) ⌝ }
 {
-    if value == LARGEST_VALUE {
+    if largest <= value {
         return Plan {
             rule: Rule::Over,
             levels: levels,

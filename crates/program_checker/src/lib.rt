@@ -3,16 +3,18 @@
 use checker::Checked;
 use checker::Verdict;
 use checker::answer;
+use checker::bad_buffer;
 use checker::check_header;
 use checker::check_variable;
 use checker::number_of;
 use checker::worst;
+use record::Sort;
 use record::kind::ASSIGNMENT;
 use record::kind::BLOCK;
 use record::kind::LITERAL;
 use record::kind::LOOP;
-use record::kind::PROGRAM;
 use record::kind::VARIABLE;
+ghost use mathlib.Core.Bool.{false};
 ghost use mathlib.Core.Path.{_≡_};
 ghost use lib.ListN.{length};
 ghost use Rattle.rules.specs.Scope.{boundInRange, exprInRange};
@@ -20,6 +22,7 @@ ghost use Rattle.record.specs.Answers.{checkProgram};
 ghost use Rattle.record.specs.Front.{Front, only, u16};
 ghost use Rattle.record.specs.Header.{blockIn};
 ghost use Rattle.record.specs.Program.{decodeBlock, readBound, readExpr};
+ghost use Rattle.record.specs.Rows.{badBuffer};
 ghost use Rattle.checker.specs.Answer.{asChecked};
 ghost use Rattle.checker.specs.Verdict.{verdict};
 ghost use Rattle.checker.specs.declared.Verdict.the-variants.{Malformed};
@@ -182,16 +185,25 @@ fn check_contents(s: &[u8], k: u32) -> Verdict
     }
 }
 
+// Rows 2 to 5, of a buffer that row 1 lets through.
+pub fn check_record(buf: &[u8], used: usize) -> Checked
+    requires { ⌜ badBuffer (now buf) used ≡ false ⌝ }
+    ensures { λ r. ⌜ asChecked r ≡ checkProgram (now (buf .entry)) used ⌝ }
+{
+    let number = check_header(buf, used, Sort::Program);
+    if number != 0 {
+        return answer(number, 0);
+    }
+    let h = record::read_header(buf);
+    let start = h.contents_at();
+    answer(number_of(check_contents(&buf[start..used], h.k)), h.k)
+}
+
 pub fn check_program(buf: &[u8], used: usize) -> Checked
     ensures { λ r. ⌜ asChecked r ≡ checkProgram (now (buf .entry)) used ⌝ }
 {
-    let header = check_header(buf, used, PROGRAM);
-    if header != 0 {
-        return answer(header, 0);
+    if bad_buffer(buf, used) {
+        return answer(1, 0);
     }
-    let k = buffer::get_u32(buf, 4);
-    answer(
-        number_of(check_contents(&buf[record::HEADER_LENGTH..used], k)),
-        k,
-    )
+    check_record(buf, used)
 }

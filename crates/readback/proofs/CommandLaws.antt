@@ -10,7 +10,8 @@ use Rattle.buffer.specs.Slice.{part}
 use Rattle.place.specs.Edit.{lead, leafBytes}
 use Rattle.place.specs.Heads.{recordHead}
 use Rattle.place.specs.TermView.{TermAt, simpleKind}
-use Rattle.record.specs.Header.{encodeProgram}
+use Rattle.record.specs.declared.Header.{Header}
+use Rattle.record.specs.Header.{contentsAt, encodeProgram}
 use Rattle.record.specs.Program.{blockSize, boundFrom, boundKind, boundNumber, encodeBlock, encodeBound, encodeExpr, exprFrom, exprKind, exprNumber}
 use Rattle.record.specs.Term.{atomKind, atomNumber, kindOfTerm}
 use Rattle.rules.specs.FreeVariables.{atomOfSimple}
@@ -197,7 +198,7 @@ module _ {l : List ℕ} {k to n at : ℕ} {ts : List Term} (s : ToCount l k to n
           let q : o ≡ ownSize (f .term) = is-size (f .term) (f .here) in
           omega (arith, command-short (f .term))
 
-pub program-length : (k : ℕ) (t : Term) (b : Block) → readBack k t ≡ some b → 12 + length (commandsOfAll (t ∷ [])) ≡ length (encodeProgram k b)
-program-length k t b e =
-    let q : length (commandsOfAll (t ∷ [])) ≡ blockSize b = ap length (commands-one t ∙ commands-readBack k t b e) ∙ length-encodeBlock b in
-    omega (arith, length-encodeProgram k b)
+pub program-length : (h : Header) (t : Term) (b : Block) → readBack (h .k) t ≡ some b → contentsAt h + (4 + length (commandsOfAll (t ∷ []))) ≡ length (encodeProgram h b)
+program-length h t b e =
+    let q : length (commandsOfAll (t ∷ [])) ≡ blockSize b = ap length (commands-one t ∙ commands-readBack (h .k) t b e) ∙ length-encodeBlock b in
+    omega (arith, length-encodeProgram h b)

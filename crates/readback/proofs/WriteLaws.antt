@@ -5,25 +5,26 @@ use mathlib.Core.List.{_++_, List, [], _∷_}
 use mathlib.Core.Option.{some}
 use lib.ListN.{length, length-append}
 use native.Mathlib.Omega.{arith}
-use Rattle.buffer.specs.LittleEndian.{le, val}
+use Rattle.buffer.specs.LittleEndian.{val}
 use Rattle.buffer.specs.Slice.{part, put, zeros}
 use Rattle.place.specs.Edit.{lead}
 use Rattle.place.specs.Heads.{recordHead}
 use Rattle.place.specs.TermView.{TermAt, simpleKind}
+use Rattle.place.specs.Whole.{header}
 use Rattle.record.specs.Answers.{padded}
-use Rattle.record.specs.Header.{encodeProgram}
+use Rattle.record.specs.declared.Header.{Header}
+use Rattle.record.specs.Header.{contentsAt, encodeProgram, program}
 use Rattle.record.specs.Program.{blockSize, encodeBlock}
 use Rattle.record.specs.Term.{atomKind, atomNumber, simpleSize}
 use Rattle.rules.specs.FreeVariables.{atomOfSimple}
 use Rattle.rules.specs.ReadBack.{readBack}
 use Rattle.rules.specs.Syntax.{Block, Term}
-use Rattle.buffer.proofs.LittleEndianLaws.{length-le}
 use Rattle.buffer.proofs.SliceLaws.{put-nil, put-put}
-use Rattle.buffer.proofs.StoresLaws.{stores-4}
+use Rattle.buffer.proofs.StoresLaws.{stores-3}
 use Rattle.place.proofs.HeadsLaws.{length-recordHead}
-use Rattle.place.proofs.ProgramRecordLaws.{encodeProgram-head}
 use Rattle.place.proofs.TermBytesLaws.{atomKind-range, simple-least}
 use Rattle.place.proofs.TermViewLaws.{as-letAll, as-letOne, as-rec, atom-view, simple-kind, term-index, term-room}
+use Rattle.place.proofs.WholeLaws.{encodeProgram-header, length-header}
 use Rattle.record.proofs.HeaderLaws.{length-encodeProgram}
 use Rattle.record.proofs.PaddedLaws.{written-padded}
 use Rattle.readback.specs.CommandBytes.{commandsOf, commandsOfAll, loopBytes, ownCommand}
@@ -139,20 +140,20 @@ module _ {l : List ℕ} {k to at : ℕ} {b : List ℕ} {o : ℕ} {b₀ : List �
           room = omega arith;
         }
 
--- THE WHOLE RECORD: its head, k, its block's head, the commands, and zeros behind them
+-- THE WHOLE RECORD: its header, its block's head, the commands, and zeros behind them
 
-pub write-program : (k : ℕ) (t : Term) (b : Block) → readBack k t ≡ some b → (out out₁ out₂ out₃ out₄ out₅ : List ℕ) (n room : ℕ)
-    → n ≡ length (encodeProgram k b) → n ≤ length out → room ≡ length out
-    → out₁ ≡ put out 0 (recordHead 7 n) → out₂ ≡ put out₁ 4 (le 4 k) → out₃ ≡ put out₂ 8 (recordHead 1 (n - 8))
-    → out₄ ≡ put out₃ 12 (commandsOfAll (t ∷ [])) → out₅ ≡ put out₄ n (zeros (room - n))
-    → out₅ ≡ padded (length out) (encodeProgram k b)
-write-program k t b e out out₁ out₂ out₃ out₄ out₅ n room en h er e₁ e₂ e₃ e₄ e₅ =
-    let z : n ≡ 12 + blockSize b = en ∙ length-encodeProgram k b in
-    let z₈ : n - 8 ≡ 4 + blockSize b = omega arith in
-    let c : commandsOfAll (t ∷ []) ≡ encodeBlock b = commands-one t ∙ commands-readBack k t b e in
-    let w : recordHead 7 n ++ (le 4 k ++ (recordHead 1 (n - 8) ++ commandsOfAll (t ∷ []))) ≡ encodeProgram k b = rw (c, z₈, z) (sym (encodeProgram-head k b)) in
-    written-padded out out₄ out₅ (encodeProgram k b) n (sym en) h
-    (stores-4 out out₁ out₂ out₃ out₄ (recordHead 7 n) (le 4 k) (recordHead 1 (n - 8)) (commandsOfAll (t ∷ [])) 0 4 8 12 e₁ e₂ e₃ e₄
-    (omega (arith, length-recordHead 7 n)) (omega (arith, length-le 4 k)) (omega (arith, length-recordHead 1 (n - 8))) (omega arith)
+pub write-program : (h : Header) (t : Term) (b : Block) → readBack (h .k) t ≡ some b → (out out₁ out₂ out₃ out₄ : List ℕ) (n start room : ℕ)
+    → n ≡ length (encodeProgram h b) → start ≡ contentsAt h → n ≤ length out → room ≡ length out
+    → out₁ ≡ put out 0 (header program h n) → out₂ ≡ put out₁ start (recordHead 1 (n - start))
+    → out₃ ≡ put out₂ (start + 4) (commandsOfAll (t ∷ [])) → out₄ ≡ put out₃ n (zeros (room - n))
+    → out₄ ≡ padded (length out) (encodeProgram h b)
+write-program h t b e out out₁ out₂ out₃ out₄ n start room en es fits er e₁ e₂ e₃ e₄ =
+    let z : n ≡ contentsAt h + (4 + blockSize b) = en ∙ length-encodeProgram h b in
+    let zs : n - start ≡ 4 + blockSize b = omega arith in
+    let c : commandsOfAll (t ∷ []) ≡ encodeBlock b = commands-one t ∙ commands-readBack (h .k) t b e in
+    let w : header program h n ++ (recordHead 1 (n - start) ++ commandsOfAll (t ∷ [])) ≡ encodeProgram h b = rw (c, zs) (sym (encodeProgram-header h b n en)) in
+    written-padded out out₃ out₄ (encodeProgram h b) n (sym en) fits
+    (stores-3 out out₁ out₂ out₃ (header program h n) (recordHead 1 (n - start)) (commandsOfAll (t ∷ [])) 0 start (start + 4) e₁ e₂ e₃
+    (omega (arith, length-header program h n)) (omega (arith, length-recordHead 1 (n - start))) (omega arith)
     ∙ ap (put out 0) w)
-    (e₅ ∙ ap (λ (y : ℕ). put out₄ n (zeros (y - n))) er)
+    (e₄ ∙ ap (λ (y : ℕ). put out₃ n (zeros (y - n))) er)

@@ -17,15 +17,16 @@ ghost use Rattle.rules.specs.ReadBack.{readBack};
 ghost use Rattle.rules.specs.Syntax.{Block, Term};
 ghost use Rattle.readback.specs.CommandBytes.{commandsOfAll, loopBytes, ownCommand};
 use edit::put_head;
+use edit::put_header;
 use edit::put_lead;
 use recognition::own_size;
-use record::HEADER_LENGTH;
+use record::Header;
+use record::Sort;
 use record::kind::ASSIGNMENT;
 use record::kind::BLOCK;
 use record::kind::LET_ALL;
 use record::kind::LET_ONE;
 use record::kind::LOOP;
-use record::kind::PROGRAM;
 use record::kind::REC;
 use record::kind::TUPLE;
 
@@ -66,11 +67,12 @@ fn commands_size(src: &[u8], from: usize, to: usize, k: u32) -> usize
 }
 
 // The length of the program's record.
-pub fn source_size(src: &[u8], used: usize, k: u32) -> usize
-    requires { ⌜ ((t : Term) × TermIn allVars k t (now src) used) × (length (now src) ≤ 16384) ⌝ }
-    ensures { λ r. ⌜ ((t : Term) (P : Block) → TermIn allVars k t (now (src .entry)) used → readBack k t ≡ some P → r ≡ length (encodeProgram k P)) ⌝ }
+pub fn source_size(src: &[u8], used: usize, h: Header) -> usize
+    requires { ⌜ ((t : Term) × TermIn allVars h t (now src) used) × (length (now src) ≤ 16384) ⌝ }
+    ensures { λ r. ⌜ ((t : Term) (P : Block) → TermIn allVars h t (now (src .entry)) used → readBack (h .k) t ≡ some P → r ≡ length (encodeProgram h P)) ⌝ }
 {
-    HEADER_LENGTH + 4 + commands_size(src, HEADER_LENGTH, used, k)
+    let start = h.contents_at();
+    start + 4 + commands_size(src, start, used, h.k)
 }
 
 fn put_loop(out: &mut [u8], at: usize, x: u32, kind: usize, v: u32, n: usize)
@@ -152,15 +154,15 @@ fn write_commands(src: &[u8], from: usize, to: usize, k: u32, out: &mut [u8], st
 }
 
 // The program's record, and zeros behind it.
-pub fn write_source(src: &[u8], used: usize, k: u32, out: &mut [u8])
-    requires { ⌜ ((t : Term) × (P : Block) × TermIn allVars k t (now src) used × (readBack k t ≡ some P) × (length (encodeProgram k P) ≤ length (now out))) × (length (now src) ≤ 16384) ⌝ }
-    ensures { λ _. ⌜ ((t : Term) (P : Block) → TermIn allVars k t (now (src .entry)) used → readBack k t ≡ some P → now (out .exit) ≡ padded (length (now (out .entry))) (encodeProgram k P)) ⌝ }
+pub fn write_source(src: &[u8], used: usize, h: Header, out: &mut [u8])
+    requires { ⌜ ((t : Term) × (P : Block) × TermIn allVars h t (now src) used × (readBack (h .k) t ≡ some P) × (length (encodeProgram h P) ≤ length (now out))) × (length (now src) ≤ 16384) ⌝ }
+    ensures { λ _. ⌜ ((t : Term) (P : Block) → TermIn allVars h t (now (src .entry)) used → readBack (h .k) t ≡ some P → now (out .exit) ≡ padded (length (now (out .entry))) (encodeProgram h P)) ⌝ }
 {
-    let n = source_size(src, used, k);
-    put_head(out, 0, PROGRAM, n);
-    buffer::put_u32(out, 4, k);
-    put_head(out, HEADER_LENGTH, BLOCK, n - HEADER_LENGTH);
-    write_commands(src, HEADER_LENGTH, used, k, out, HEADER_LENGTH + 4);
+    let n = source_size(src, used, h);
+    let start = h.contents_at();
+    put_header(out, Sort::Program, h, n);
+    put_head(out, start, BLOCK, n - start);
+    write_commands(src, start, used, h.k, out, start + 4);
     let room = out.len();
     buffer::zero(out, n, room - n);
 }

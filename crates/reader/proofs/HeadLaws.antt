@@ -6,11 +6,8 @@ use mathlib.Core.List.{List}
 use lib.Dec.{leb}
 use lib.ListN.{length}
 use native.Mathlib.Omega.{arith}
-use borrow.Author.Tests.{le-leb, leb-false, leb-true, lt-leb}
-use Rattle.buffer.specs.LittleEndian.{val}
-use Rattle.buffer.specs.Slice.{part}
-use Rattle.reader.specs.Head.{headAt, headIf, kindAt, lengthAt, lengthOf, nextAt, wholeAt, wordAt, wordIf, wordIn}
-use Rattle.reader.specs.declared.Cell.the-variants.{Out, Word}
+use borrow.Author.Tests.{le-leb, leb-true, lt-leb}
+use Rattle.reader.specs.Head.{headAt, headIf, kindAt, lengthAt, lengthOf, nextAt, wholeAt}
 use Rattle.reader.specs.declared.Head.{Head}
 use Rattle.reader.specs.declared.Head.the-variants.{End, Record, Short}
 
@@ -103,49 +100,3 @@ module _ (l : List ℕ) (at : ℕ) where
   pub next-short : headAt l at ≡ Short → nextAt l at ≡ at
   unfolding lengthOf
   next-short e = next-is Short e ∙ omega arith
-
-  -- A WORD OF IT
-
-  module _ (offset : ℕ) where
-    word-is : (h : Head) → headAt l at ≡ h → wordAt l at offset ≡ wordIn h offset (val (part l (at + offset) 4))
-    unfolding wordAt
-    word-is h e = ap (λ (x : Head). wordIn x offset (val (part l (at + offset) 4))) e
-
-    pub word-inside : (n k v : ℕ) → headAt l at ≡ Record n k → offset + 4 ≤ n → v ≡ val (part l (at + offset) 4) → wordAt l at offset ≡ Word v
-    unfolding wordIn wordIf
-    word-inside n k v e h is = word-is (Record n k) e ∙ simp (le-leb _ _ h, is)
-
-    pub word-outside : (n k : ℕ) → headAt l at ≡ Record n k → n < offset + 4 → wordAt l at offset ≡ Out
-    unfolding wordIn wordIf
-    word-outside n k e h = word-is (Record n k) e ∙ simp (lt-leb _ _ h)
-
-    pub word-end : headAt l at ≡ End → wordAt l at offset ≡ Out
-    unfolding wordIn
-    word-end e = word-is End e
-
-    pub word-short : headAt l at ≡ Short → wordAt l at offset ≡ Out
-    unfolding wordIn
-    word-short e = word-is Short e
-
-    told-word : (b : Bool) (w v : ℕ) → wordIf b w ≡ Word v → (b ≡ true) × (w ≡ v)
-    unfolding wordIf
-    told-word true w v e = (refl, cc)
-    told-word false w v e = let z : _≡_ {A = ℕ} 0 1 = cc in absurd (omega arith)
-
-    told-out : (b : Bool) (w : ℕ) → wordIf b w ≡ Out → b ≡ false
-    unfolding wordIf
-    told-out true w e = let z : _≡_ {A = ℕ} 0 1 = cc in absurd (omega arith)
-    told-out false w e = refl
-
-    module _ (n k : ℕ) (stands : headAt l at ≡ Record n k) where
-      word-in : wordAt l at offset ≡ wordIf (leb (offset + 4) n) (val (part l (at + offset) 4))
-      unfolding wordIn
-      word-in = word-is (Record n k) stands
-
-      pub word-tells : (v : ℕ) → wordAt l at offset ≡ Word v → (offset + 4 ≤ n) × (val (part l (at + offset) 4) ≡ v)
-      word-tells v e =
-          let p = told-word (leb (offset + 4) n) (val (part l (at + offset) 4)) v (sym word-in ∙ e) in
-          (leb-true (offset + 4) n (p .0), p .1)
-
-      pub out-tells : wordAt l at offset ≡ Out → n < offset + 4
-      out-tells e = leb-false (offset + 4) n (told-out (leb (offset + 4) n) (val (part l (at + offset) 4)) (sym word-in ∙ e))

@@ -6,8 +6,6 @@ use lib.Dec.{leb}
 use lib.ListN.{length}
 use Rattle.buffer.specs.LittleEndian.{val}
 use Rattle.buffer.specs.Slice.{part}
-use Rattle.reader.specs.declared.Cell.{Cell}
-use Rattle.reader.specs.declared.Cell.the-variants.{Out, Word}
 use Rattle.reader.specs.declared.Head.{Head}
 use Rattle.reader.specs.declared.Head.the-variants.{End, Record, Short}
 
@@ -32,21 +30,6 @@ headIf false false n k = Short
 -- What stands at a place: the end of the bytes, a record's length and kind, or no whole record.
 unfoldable pub headAt : List ℕ → ℕ → Head
 headAt l at = headIf (leb (length l) at) (wholeAt l at) (lengthAt l at) (kindAt l at)
-
--- A word, if there is one.
-unfoldable pub wordIf : Bool → ℕ → Cell
-wordIf true v = Word v
-wordIf false v = Out
-
--- A word is in a record where its 4 bytes are (01 "Records": a record's length is that of the whole record).
-unfoldable pub wordIn : Head → ℕ → ℕ → Cell
-wordIn (Record n k) offset v = wordIf (leb (offset + 4) n) v
-wordIn End offset v = Out
-wordIn Short offset v = Out
-
--- The word at an offset of the record at a place (01 "Records": k, a value, a variable number, 4 bytes each).
-unfoldable pub wordAt : List ℕ → ℕ → ℕ → Cell
-wordAt l at offset = wordIn (headAt l at) offset (val (part l (at + offset) 4))
 
 -- How many bytes the record takes that stands there; 0 where none does.
 unfoldable pub lengthOf : Head → ℕ

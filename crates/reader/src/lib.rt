@@ -1,7 +1,7 @@
 // The record reader (01 "Records"): the lent bytes and how far it has come. A struct that holds a reference is proved by
-// hand, so its functions are thin, above ones on the bytes and a place; callers of `head_of` and `word_of` see neither.
+// hand, so its functions are thin, above ones on the bytes and a place; callers of `head_of` see neither.
 ghost use mathlib.Core.Path.{_≡_};
-ghost use Rattle.reader.specs.Head.{headAt, nextAt, wordAt};
+ghost use Rattle.reader.specs.Head.{headAt, nextAt};
 ghost use Rattle.reader.specs.Readers.{onwardOf, startOf};
 
 pub struct Reader<'a> {
@@ -14,12 +14,6 @@ pub enum Head {
     Record(usize, usize),
     End,
     Short,
-}
-
-// A word inside a record, or that the record has none there.
-pub enum Cell {
-    Word(u32),
-    Out,
 }
 
 fn header_at(bytes: &[u8], at: usize) -> Head
@@ -40,22 +34,6 @@ fn header_at(bytes: &[u8], at: usize) -> Head
     }
     let kind = buffer::get_u16(bytes, at + 2);
     Head::Record(length, kind)
-}
-
-// The offset counts from the start of the record, its length and kind included.
-fn word_at(bytes: &[u8], at: usize, offset: usize) -> Cell
-    ensures { λ r. ⌜ r ≡ wordAt (now (bytes .entry)) at offset ⌝ }
-{
-    match header_at(bytes, at) {
-        Head::Record(length, _) => {
-            if length - 4 < offset {
-                return Cell::Out;
-            }
-            Cell::Word(buffer::get_u32(bytes, at + offset))
-        }
-        Head::End => Cell::Out,
-        Head::Short => Cell::Out,
-    }
 }
 
 // A reader stays where it is where no whole record stands.
@@ -87,12 +65,6 @@ pub fn header<'a>(r: Reader<'a>) -> Head
     header_at(r.bytes, r.place)
 }
 
-pub fn word<'a>(r: Reader<'a>, offset: usize) -> Cell
-    ensures { λ c. ⌜ c ≡ wordAt (now (r .entry .bytes)) (r .entry .place) offset ⌝ }
-{
-    word_at(r.bytes, r.place, offset)
-}
-
 pub fn onward<'a>(r: Reader<'a>) -> Reader<'a>
     ensures { λ q. ⌜ q ≡ onwardOf (r .entry) ⌝ }
 {
@@ -108,11 +80,4 @@ pub fn head_of(bytes: &[u8]) -> Head
     ensures { λ h. ⌜ h ≡ headAt (now (bytes .entry)) 0 ⌝ }
 {
     header(new(bytes))
-}
-
-// A word of the record that the bytes start with.
-pub fn word_of(bytes: &[u8], offset: usize) -> Cell
-    ensures { λ c. ⌜ c ≡ wordAt (now (bytes .entry)) 0 offset ⌝ }
-{
-    word(new(bytes), offset)
 }

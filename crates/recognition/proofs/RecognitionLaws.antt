@@ -13,18 +13,19 @@ use Rattle.buffer.specs.Slice.{part}
 use Rattle.place.specs.TermView.{AtomsAt, LetOfView, TermAt, TermView, isLetAllAt, isLetOneAt, isRecAt, isTupleAt}
 use Rattle.record.specs.Rows.{isNone}
 use Rattle.record.specs.Term.{atomKind}
+use Rattle.record.specs.declared.Header.{Header}
+use Rattle.record.specs.Header.{contentsAt}
 use Rattle.record.specs.Holding.{TermIn}
 use Rattle.rules.specs.FreeVariables.{allVars}
 use Rattle.rules.specs.ReadBack.{Source, aBlock, aLoop, blockOfSource, boundOf, exprOf, nothing, readBack, sameAtoms, source, sourceLetAll, sourceLetOne, sourceRec}
 use Rattle.rules.specs.Syntax.{Atom, Block, Bound, Expr, Simple, Term, dec, empty, inc, letAll, letOne, lit, num, plain, predOf, rec, ref, succOf, tuple, var}
 use Rattle.rules.specs.Translation.{all}
-use Rattle.place.proofs.TermRecordLaws.{record-at, record-end}
 use Rattle.place.proofs.TermBytesLaws.{atomKind-range, kind-num, kind-ref}
 use Rattle.place.proofs.TermViewLaws.{as-letAll, as-letAtom, as-letPred, as-letSucc, as-rec, as-tuple, simple-kind, term-view}
 use Rattle.record.proofs.RowLaws.{isNone-none, isNone-some}
 use Rattle.recognition.specs.Recognition.{accepts, hasExpr, isLetAll, isRef, legal, recognised}
 use Rattle.recognition.specs.Scan.{TermsAt, inner, ownSize}
-use Rattle.recognition.proofs.ScanLaws.{terms-end, terms-first, terms-one}
+use Rattle.recognition.proofs.ScanLaws.{terms-end, terms-first, terms-record}
 
 -- THE SOURCE OF A TERM, by the sources of the terms inside it
 
@@ -173,8 +174,8 @@ pub record ToRecognise (l : List ℕ) (k used : ℕ) (first : Bool) (at : ℕ) (
   pub row : TermsAt l k used at terms
   pub same : recognised k first terms ≡ not (isNone (readBack k t))
 
-pub recognise-start : {k : ℕ} {t : Term} {l : List ℕ} {used : ℕ} → TermIn allVars k t l used → length l ≤ 16384 → ToRecognise l k used false 8 t
-recognise-start {k} {t} h b = record { terms = t ∷ []; row = terms-one (record-at h b) (record-end h); same = recognised-one k t }
+pub recognise-start : {h : Header} {t : Term} {l : List ℕ} {used n : ℕ} → TermIn allVars h t l used → length l ≤ 16384 → n ≡ contentsAt h → ToRecognise l (h .k) used false n t
+recognise-start {h} {t} p b e = record { terms = t ∷ []; row = terms-record p b e; same = recognised-one (h .k) t }
 
 module _ {l : List ℕ} {k used : ℕ} {first : Bool} {at : ℕ} {t : Term} (s : ToRecognise l k used first at t) where
   pub recognise-end : used ≤ at → true ≡ not (isNone (readBack k t))

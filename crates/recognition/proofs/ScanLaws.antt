@@ -7,8 +7,13 @@ use native.Mathlib.Omega.{arith}
 use Rattle.buffer.specs.LittleEndian.{val}
 use Rattle.buffer.specs.Slice.{part}
 use Rattle.place.specs.TermView.{TermAt, TermView, isLetAllAt, isLetOneAt, isRecAt, isTupleAt}
+use Rattle.record.specs.declared.Header.{Header}
+use Rattle.record.specs.Header.{contentsAt}
+use Rattle.record.specs.Holding.{TermIn}
 use Rattle.record.specs.Term.{simpleSize, termSize}
+use Rattle.rules.specs.FreeVariables.{Vars}
 use Rattle.rules.specs.Syntax.{Term, letAll, letOne, rec, tuple}
+use Rattle.place.proofs.WholeLaws.{term-from, term-used}
 use Rattle.place.proofs.TermBytesLaws.{simple-high, simple-low}
 use Rattle.place.proofs.TermViewLaws.{as-letAll, as-letOne, as-rec, as-tuple, term-index, term-kind, term-room, term-view}
 use Rattle.recognition.specs.Scan.{TermsAt, ended, followed, inner, ownSize}
@@ -63,6 +68,10 @@ terms-first (followed {p} {t} {ts} h r) b = record { term = t; rest = ts; is = r
 -- one term is a row
 pub terms-one : {l : List ℕ} {k to p : ℕ} {t : Term} → TermAt l p k t → p + (4 + termSize t) ≡ to → TermsAt l k to p (t ∷ [])
 terms-one h e = followed h (ended e)
+
+-- and so is the term of a record
+pub terms-record : {S : Vars} {h : Header} {t : Term} {l : List ℕ} {used n : ℕ} → TermIn S h t l used → length l ≤ 16384 → n ≡ contentsAt h → TermsAt l (h .k) used n (t ∷ [])
+terms-record p b e = terms-one (term-from p b e) (omega (arith, term-used p))
 
 -- a term has at least its length and its kind
 own-some : (t : Term) → 4 ≤ ownSize t

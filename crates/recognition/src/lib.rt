@@ -14,7 +14,7 @@ ghost use Rattle.rules.specs.Syntax.{Atom, Term};
 ghost use Rattle.rules.specs.Translation.{all};
 ghost use Rattle.recognition.specs.Recognition.{legal};
 ghost use Rattle.recognition.specs.Scan.{ownSize};
-use record::HEADER_LENGTH;
+use record::Header;
 use record::kind::LET_ALL;
 use record::kind::LET_ONE;
 use record::kind::REFERENCE;
@@ -85,18 +85,18 @@ fn is_legal(src: &[u8], at: usize, k: u32, first: bool) -> bool
     false
 }
 
-pub fn is_translation(src: &[u8], used: usize, k: u32) -> bool
-    requires { ⌜ ((t : Term) × TermIn allVars k t (now src) used) × (length (now src) ≤ 16384) ⌝ }
-    ensures { λ r. ⌜ ((t : Term) → TermIn allVars k t (now (src .entry)) used → r ≡ not (isNone (readBack k t))) ⌝ }
+pub fn is_translation(src: &[u8], used: usize, h: Header) -> bool
+    requires { ⌜ ((t : Term) × TermIn allVars h t (now src) used) × (length (now src) ≤ 16384) ⌝ }
+    ensures { λ r. ⌜ ((t : Term) → TermIn allVars h t (now (src .entry)) used → r ≡ not (isNone (readBack (h .k) t))) ⌝ }
 {
     let mut first = false;
-    let mut at = HEADER_LENGTH;
+    let mut at = h.contents_at();
     while at < used {
-        if !is_legal(src, at, k, first) {
+        if !is_legal(src, at, h.k, first) {
             return false;
         }
         first = buffer::get_u16(src, at + 2) == LET_ALL;
-        at += own_size(src, at, k);
+        at += own_size(src, at, h.k);
     }
     true
 }

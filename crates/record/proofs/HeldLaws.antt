@@ -1,21 +1,27 @@
 -- Rows 1 to 3: what they say of a buffer, and of one that begins with a headed record.
-use Prim.Native.Nat.{_+_, _<_, ℕ, _≤_}
-use mathlib.Core.Path.{ap, refl, sym, _∙_, _≡_}
-use mathlib.Core.Bool.{false, not, true, _||_}
-use mathlib.Core.List.{List}
-use borrow.Author.Tests.{eq-eqb, eqb-true, le-ltb, lt-ltb, ltb-false, not-false}
+use Prim.Native.Nat.{_+_, ℕ, _≤_}
+use mathlib.Core.Path.{ap, refl, subst, sym, _∙_, _≡_}
+use mathlib.Core.Bool.{Bool, false, not, true, _||_}
+use mathlib.Core.List.{List, _∷_}
+use borrow.Author.Tests.{eq-eqb, eqb-true, le-ltb, ltb-false, not-false}
 use lib.Dec.{eqb, ltb}
 use lib.ListN.{length, length-take, take}
 use lib.Seq.{length-take-le, take-take}
 use native.Mathlib.Omega.{arith}
-use Rattle.buffer.specs.LittleEndian.{Bytes}
+use Rattle.buffer.specs.LittleEndian.{Bytes, val}
+use Rattle.buffer.specs.Slice as slice
 use Rattle.rules.specs.Scope.{inRange}
 use Rattle.buffer.proofs.LittleEndianLaws.{bytes-drop, bytes-take}
 use Rattle.rules.proofs.ScopeLaws.{inRange-within, within-inRange}
-use Rattle.record.specs.Header.{contents, headed, kField, kindField, lengthField}
-use Rattle.record.specs.Rows.{badBuffer, badHeader, badK, badStore, kOf, tooLong}
-use Rattle.record.proofs.HeaderLaws.{contents-headed, headed-fields, kField-headed, kindField-headed, length-headed, lengthField-headed}
+use Rattle.record.specs.declared.Header.{Header}
+use Rattle.record.specs.declared.Sort.{Sort}
+use Rattle.record.specs.Header.{HeaderFits, contents, contentsAt, headed, headerIn, kField, kindField, kindOf, lengthField}
+use Rattle.record.specs.Rows.{NoRow, Row, badBuffer, badHeader, badK, badStore, headerOf, headerRows, kOf, row, tooLong}
+use Rattle.record.proofs.HeaderLaws.{contents-headed, contentsAt-low, headed-fields, headerIn-headed, kindField-headed, length-headed, lengthField-headed}
 use Rattle.record.proofs.RowLaws.{not-intro, or-false, or-intro}
+use Rattle.record.specs.Front.{u16}
+use Rattle.record.proofs.LeafLaws.{part-take}
+use Rattle.record.proofs.BetweenLaws.{between, drop-take}
 
 -- ROW 1
 
@@ -30,9 +36,18 @@ pub not-long : (buf : List ℕ) → length buf ≤ 16384 → tooLong buf ≡ fal
 unfolding tooLong
 not-long buf h = le-ltb 16384 (length buf) h
 
-pub long-buffer : (buf : List ℕ) → 16384 < length buf → tooLong buf ≡ true
+-- as code finds it: too long, or else shorter than what is used
+pub long-is : (buf : List ℕ) → ltb 16384 (length buf) ≡ tooLong buf
 unfolding tooLong
-long-buffer buf h = lt-ltb 16384 (length buf) h
+long-is buf = refl
+
+pub long-bad : (buf : List ℕ) (used : ℕ) → tooLong buf ≡ true → badBuffer buf used ≡ true
+unfolding badBuffer
+long-bad buf used e = ap (λ (b : Bool). b || ltb (length buf) used) e
+
+pub short-bad : (buf : List ℕ) (used : ℕ) → tooLong buf ≡ false → badBuffer buf used ≡ ltb (length buf) used
+unfolding badBuffer
+short-bad buf used e = ap (λ (b : Bool). b || ltb (length buf) used) e
 
 pub record Buffer (buf : List ℕ) (used : ℕ) : Type 0 where
   pub low : length buf ≤ 16384
@@ -48,29 +63,65 @@ pub buffer-good : (buf : List ℕ) (used : ℕ) → Buffer buf used → badBuffe
 unfolding badBuffer
 buffer-good buf used h = or-intro (not-long buf (h .low)) (le-ltb (length buf) used (h .within))
 
+-- THE HEADER READ FROM THE BUFFER is that of the record in front of it
+
+module _ (buf : List ℕ) (used : ℕ) where
+  -- the two fields in front of every header
+  module _ (four : 4 ≤ used) where
+    pub length-at : lengthField (take used buf) ≡ u16 buf 0
+    unfolding lengthField slice.part
+    length-at = ap val (part-take buf used 0 2 (omega arith))
+
+    pub kind-at : kindField (take used buf) ≡ u16 buf 2
+    unfolding kindField slice.part
+    kind-at = ap val (part-take buf used 2 2 (omega arith))
+
+  pub k-at : 8 ≤ used → kOf buf used ≡ kField buf
+  unfolding kField slice.part
+  k-at eight = ap val (part-take buf used 4 4 (omega arith))
+
+  pub header-at : contentsAt (headerOf buf used) ≤ used → headerOf buf used ≡ headerIn buf
+  header-at n = ap (λ k. record { k = k }) (k-at (omega (arith, n, contentsAt-low (headerOf buf used))))
+
+  -- it is whole in the record exactly where it is whole in what is read
+  pub start-at : contentsAt (headerIn buf) ≤ used → contentsAt (headerOf buf used) ≤ used
+  unfolding contentsAt
+  start-at n = n
+
+  pub at-start : contentsAt (headerOf buf used) ≤ used → contentsAt (headerIn buf) ≤ used
+  at-start n = subst (λ (x : Header). contentsAt x ≤ used) (header-at n) n
+
+  pub contents-at : contents (take used buf) ≡ between buf (contentsAt (headerOf buf used)) used
+  unfolding contents
+  contents-at = drop-take (contentsAt (headerOf buf used)) used buf
+
 -- ROW 2
 
-pub record Header (kind : ℕ) (buf : List ℕ) (used : ℕ) : Type 0 where
-  pub eight : 8 ≤ used
-  pub is-kind : kindField (take used buf) ≡ kind
+pub record GoodHeader (s : Sort) (buf : List ℕ) (used : ℕ) : Type 0 where
+  pub start : contentsAt (headerOf buf used) ≤ used
+  pub is-kind : kindField (take used buf) ≡ kindOf s (headerOf buf used)
   pub is-length : lengthField (take used buf) ≡ used
 
-pub good-header : (kind : ℕ) (buf : List ℕ) (used : ℕ) → badHeader kind buf used ≡ false → Header kind buf used
+pub good-eight : {s : Sort} {buf : List ℕ} {used : ℕ} → GoodHeader s buf used → 8 ≤ used
+good-eight {s} {buf} {used} g = omega (arith, g .start, contentsAt-low (headerOf buf used))
+
+pub good-header : (s : Sort) (buf : List ℕ) (used : ℕ) → badHeader s buf used ≡ false → GoodHeader s buf used
 unfolding badHeader
-good-header kind buf used e =
-    let p = or-false (ltb used 8) (not (eqb (kindField (take used buf)) kind) || not (eqb (lengthField (take used buf)) used)) e in
-    let q = or-false (not (eqb (kindField (take used buf)) kind)) (not (eqb (lengthField (take used buf)) used)) (p .1) in
+good-header s buf used e =
+    let h : Header = headerOf buf used in
+    let p = or-false (ltb used (contentsAt h)) (not (eqb (kindField (take used buf)) (kindOf s h)) || not (eqb (lengthField (take used buf)) used)) e in
+    let q = or-false (not (eqb (kindField (take used buf)) (kindOf s h))) (not (eqb (lengthField (take used buf)) used)) (p .1) in
     record {
-      eight = ltb-false used 8 (p .0);
-      is-kind = eqb-true (kindField (take used buf)) kind (not-false (eqb (kindField (take used buf)) kind) (q .0));
+      start = ltb-false used (contentsAt h) (p .0);
+      is-kind = eqb-true (kindField (take used buf)) (kindOf s h) (not-false (eqb (kindField (take used buf)) (kindOf s h)) (q .0));
       is-length = eqb-true (lengthField (take used buf)) used (not-false (eqb (lengthField (take used buf)) used) (q .1));
     }
 
-pub header-good : (kind : ℕ) (buf : List ℕ) (used : ℕ) → Header kind buf used → badHeader kind buf used ≡ false
+pub header-good : (s : Sort) (buf : List ℕ) (used : ℕ) → GoodHeader s buf used → badHeader s buf used ≡ false
 unfolding badHeader
-header-good kind buf used h =
-    or-intro (le-ltb used 8 (h .eight))
-    (or-intro (not-intro (eq-eqb (kindField (take used buf)) kind (h .is-kind))) (not-intro (eq-eqb (lengthField (take used buf)) used (h .is-length))))
+header-good s buf used h =
+    or-intro (le-ltb used (contentsAt (headerOf buf used)) (h .start))
+    (or-intro (not-intro (eq-eqb (kindField (take used buf)) (kindOf s (headerOf buf used)) (h .is-kind))) (not-intro (eq-eqb (lengthField (take used buf)) used (h .is-length))))
 
 -- ROW 3
 
@@ -99,39 +150,65 @@ length-same : (buf : List ℕ) (m n : ℕ) → 2 ≤ m → 2 ≤ n → lengthFie
 unfolding lengthField
 length-same buf m n h l = rw (take-take 2 m buf h, take-take 2 n buf l) refl
 
-module _ (kind k : ℕ) (c buf : List ℕ) (n : ℕ) (fits : n ≤ length buf) (held : take n buf ≡ headed kind k c) where
-  pub held-size : n ≡ 8 + length c
-  held-size = sym (length-take-le n buf fits) ∙ ap length held ∙ length-headed kind k c
+module _ (s : Sort) (h : Header) (f : HeaderFits h) (c buf : List ℕ) (n : ℕ) (fits : n ≤ length buf) (held : take n buf ≡ headed s h c) where
+  pub held-size : n ≡ contentsAt h + length c
+  held-size = sym (length-take-le n buf fits) ∙ ap length held ∙ length-headed s h c
 
   held-length : length buf ≤ 16384 → lengthField (take n buf) ≡ n
-  held-length h = rw held (lengthField-headed kind k c (omega (arith, held-size)) ∙ sym held-size)
+  held-length l = rw held (lengthField-headed s h c (omega (arith, held-size)) ∙ sym held-size)
 
   -- an accepted used length is the record's own
-  pub held-used : (used : ℕ) → length buf ≤ 16384 → Header kind buf used → used ≡ n
-  held-used used h g = sym (g .is-length) ∙ length-same buf used n (omega (arith, g .eight)) (omega (arith, held-size)) ∙ held-length h
+  pub held-used : (used : ℕ) → length buf ≤ 16384 → GoodHeader s buf used → used ≡ n
+  held-used used l g = sym (g .is-length) ∙ length-same buf used n (omega (arith, good-eight g)) (omega (arith, held-size, contentsAt-low h)) ∙ held-length l
 
-  pub held-k : k < 4294967296 → kOf buf n ≡ k
-  held-k h = ap kField held ∙ kField-headed kind k c h
+  pub held-header : headerOf buf n ≡ h
+  held-header = ap headerIn held ∙ headerIn-headed s h c f
+
+  held-start : contentsAt (headerOf buf n) ≤ n
+  held-start = subst (λ (x : Header). contentsAt x ≤ n) (sym held-header) (omega (arith, held-size))
+
+  -- the header is whole in the buffer, and what code reads of it is h
+  pub held-whole : contentsAt (headerIn buf) ≤ length buf
+  held-whole = omega (arith, fits, at-start buf n held-start)
+
+  pub held-is : headerIn buf ≡ h
+  held-is = sym (header-at buf n held-start) ∙ held-header
+
+  pub held-k : kOf buf n ≡ h .k
+  held-k = ap (λ (x : Header). x .k) held-header
 
   pub held-contents : contents (take n buf) ≡ c
-  held-contents = ap contents held ∙ contents-headed kind k c
+  held-contents = ap contents held ∙ contents-headed s h c f
 
-  pub held-header : kind < 65536 → length buf ≤ 16384 → Header kind buf n
-  held-header h l = record {
-    eight = omega (arith, held-size);
-    is-kind = ap kindField held ∙ kindField-headed kind k c h;
+  pub held-good : length buf ≤ 16384 → GoodHeader s buf n
+  held-good l = record {
+    start = held-start;
+    is-kind = ap kindField held ∙ kindField-headed s h c ∙ ap (kindOf s) (sym held-header);
     is-length = held-length l;
   }
 
+  -- rows 1 to 3 do not apply, nor do rows 4 and 5 by tests that fail
+  pub held-passes : length buf ≤ 16384 → {four five : Bool} → four ≡ false → five ≡ false → (more : List Row) → NoRow more
+      → NoRow (row 1 (badBuffer buf n) ∷ headerRows s buf n (row 4 four ∷ row 5 five ∷ more))
+  held-passes l e₄ e₅ more m = (
+    buffer-good buf n (record { low = l; within = fits }),
+    (header-good s buf n (held-good l), (k-good buf n (rw held-k (f .k-low)) (rw held-k (f .k-high)), (e₄, (e₅, m)))),
+  )
+
 -- A RECORD THAT SAYS ITS OWN LENGTH AND KIND is the headed record of its fields
 
-pub header-whole : (kind : ℕ) (buf : List ℕ) (used : ℕ) → Bytes buf → Buffer buf used → Header kind buf used
-    → take used buf ≡ headed kind (kOf buf used) (contents (take used buf))
-header-whole kind buf used hb b h =
+pub header-whole : (s : Sort) (buf : List ℕ) (used : ℕ) → Bytes buf → Buffer buf used → GoodHeader s buf used
+    → take used buf ≡ headed s (headerOf buf used) (contents (take used buf))
+header-whole s buf used hb b h =
     let l : length (take used buf) ≡ used = length-take-le used buf (b .within) in
-    headed-fields (take used buf) (bytes-take used buf hb) (rw l (h .eight)) (h .is-length ∙ sym l)
-    ∙ ap (λ n. headed n (kOf buf used) (contents (take used buf))) (h .is-kind)
+    headed-fields s (take used buf) (bytes-take used buf hb) (rw l (h .start)) (h .is-kind) (h .is-length ∙ sym l)
+
+-- what rows 2 and 3 let through
+pub header-fits : (s : Sort) (buf : List ℕ) (used : ℕ) → Bytes buf → Buffer buf used → GoodHeader s buf used → badK buf used ≡ false → HeaderFits (headerOf buf used)
+header-fits s buf used hb b h e =
+    let g = good-k buf used e in
+    record { k-low = g .0; k-high = g .1 }
 
 pub bytes-contents : (used : ℕ) (buf : List ℕ) → Bytes buf → Bytes (contents (take used buf))
 unfolding contents
-bytes-contents used buf h = bytes-drop 8 (take used buf) (bytes-take used buf h)
+bytes-contents used buf h = bytes-drop (contentsAt (headerOf buf used)) (take used buf) (bytes-take used buf h)

@@ -21,4 +21,3 @@ pub mod HeaderReadLaws
 pub mod AloneLaws
 pub mod TermReadLaws
 pub mod PaddedLaws
-pub mod ContentsLaws

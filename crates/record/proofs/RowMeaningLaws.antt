@@ -15,10 +15,11 @@ use Rattle.rules.specs.Syntax.{Atom, Term, letAll, letOne, rec, tuple}
 use Rattle.rules.proofs.FreeVariablesLaws.{closed-free, free-closed}
 use Rattle.rules.proofs.ScopeLaws.{blockInRange-within, inRange-within, termInRange-within, within-blockInRange, within-inRange, within-termInRange}
 use Rattle.rules.proofs.Tests.{true-false}
-use Rattle.record.specs.Header.{blockBytes, blockIn, contents, kindField, lengthField, termIn}
+use Rattle.record.specs.declared.Sort.{Sort}
+use Rattle.record.specs.Header.{blockBytes, blockIn, contents, contentsAt, kindField, kindOf, lengthField, program, term, termIn}
 use Rattle.record.specs.Program.{BlockWords}
 use Rattle.record.specs.RowMeaning.{RowsMean}
-use Rattle.record.specs.Rows.{badBlock, badBuffer, badHeader, badK, badStore, badTerm, blockOf, blockOutside, finishedTerm, isNone, kOf, openTerm, termOf, termOutside, tooLong, unfinished}
+use Rattle.record.specs.Rows.{badBlock, badBuffer, badHeader, badK, badStore, badTerm, blockOf, blockOutside, finishedTerm, headerOf, isNone, kOf, openTerm, termOf, termOutside, tooLong, unfinished}
 use Rattle.record.specs.Term.{TermWords, encodeTermRecord}
 use Rattle.record.proofs.HeaderLaws.{blockIn-bytes, blockIn-sound, length-blockBytes, length-encodeTermRecord, termIn-bytes, termIn-sound}
 use Rattle.record.proofs.HeldLaws.{bytes-contents}
@@ -62,7 +63,7 @@ curry-iff h = ((λ b a p q. (h .0 b) a (p, q)), (λ f. h .1 (λ a v. f a (v .0) 
 
 short-inside : (used : ℕ) (buf : List ℕ) → length (contents (take used buf)) ≤ length buf
 unfolding contents
-short-inside used buf = omega (arith, length-drop 8 (take used buf), length-take used buf)
+short-inside used buf = omega (arith, length-drop (contentsAt (headerOf buf used)) (take used buf), length-take used buf)
 
 pub finished-iff : (t : Term) → (finishedTerm t ≡ true) ↔ ((l : List Atom) × (t ≡ tuple l))
 unfolding finishedTerm
@@ -73,15 +74,25 @@ finished-iff (rec x a l t) = ((λ e. true-false (sym e)), (λ v. cc (v .1)))
 
 -- THE ROWS
 
+-- row 2 of either sort, by what the header says
+pub header-bad : (s : Sort) (buf : List ℕ) (used : ℕ)
+    → (badHeader s buf used ≡ true)
+    ↔ ((used < contentsAt (headerOf buf used)) ⊎ ((kindField (take used buf) ≡ kindOf s (headerOf buf used) → ⊥) ⊎ (lengthField (take used buf) ≡ used → ⊥)))
+unfolding badHeader
+header-bad s buf used =
+    let start : ℕ = contentsAt (headerOf buf used) in
+    let kind : ℕ = kindOf s (headerOf buf used) in
+    let is-kind : Bool = eqb (kindField (take used buf)) kind in
+    let is-length : Bool = eqb (lengthField (take used buf)) used in
+    or-iff (ltb used start) (not is-kind || not is-length) (ltb-iff used start)
+    (or-iff (not is-kind) (not is-length) (not-iff is-kind (eqb-iff (kindField (take used buf)) kind)) (not-iff is-length (eqb-iff (lengthField (take used buf)) used)))
+
 pub rows-mean : RowsMean
-unfolding badBuffer tooLong badHeader badK badBlock badTerm blockOutside termOutside badStore openTerm unfinished
+unfolding badBuffer tooLong contentsAt kindOf badK badBlock badTerm blockOutside termOutside badStore openTerm unfinished
 rows-mean = record {
   one = λ buf used. or-iff (ltb 16384 (length buf)) (ltb (length buf) used) (ltb-iff 16384 (length buf)) (ltb-iff (length buf) used);
-  two = λ kind buf used.
-      or-iff (ltb used 8) (not (eqb (kindField (take used buf)) kind) || not (eqb (lengthField (take used buf)) used)) (ltb-iff used 8)
-      (or-iff (not (eqb (kindField (take used buf)) kind)) (not (eqb (lengthField (take used buf)) used))
-      (not-iff (eqb (kindField (take used buf)) kind) (eqb-iff (kindField (take used buf)) kind))
-      (not-iff (eqb (lengthField (take used buf)) used) (eqb-iff (lengthField (take used buf)) used)));
+  two = header-bad program;
+  twoTerm = header-bad term;
   three = λ buf used. not-iff (inRange 16 (kOf buf used)) (inRange-within 16 (kOf buf used), within-inRange 16 (kOf buf used));
   four = λ buf used hb l. curry-iff (none-iff {Q = λ P. BlockWords P × (contents (take used buf) ≡ blockBytes P)} (blockOf buf used)
       (λ P e. let s = blockIn-sound (contents (take used buf)) P (bytes-contents used buf hb) e in (s .1, s .0))

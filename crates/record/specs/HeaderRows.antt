@@ -1,17 +1,14 @@
--- Rows 1 to 3, which every call that is lent a record tests first, and then rows 4 and 5, which look at what it holds.
+-- Rows 2 and 3 and rows 4 and 5 each as one number: the checks look at a record's header, and then at what it holds.
 use Prim.Native.Nat.{ℕ}
 use mathlib.Core.Bool.{Bool, false, true}
-use mathlib.Core.List.{List, [], _∷_}
+use mathlib.Core.List.{List, []}
 use mathlib.Core.Option.{Option, none, some}
-use Rattle.record.specs.Rows.{Row, badBuffer, badHeader, badK, firstRow, row}
+use Rattle.record.specs.declared.Sort.{Sort}
+use Rattle.record.specs.Rows.{firstRow, headerRows}
 
--- Rows 1 to 3 of a record of a kind, and then more.
-abbrev pub headerRows : ℕ → List ℕ → ℕ → List Row → List Row
-headerRows kind buf used more = row 1 (badBuffer buf used) ∷ row 2 (badHeader kind buf used) ∷ row 3 (badK buf used) ∷ more
-
--- The number of the first of rows 1 to 3 that applies; 0 where none does.
-unfoldable pub headerRow : ℕ → List ℕ → ℕ → ℕ
-headerRow kind buf used = firstRow (headerRows kind buf used [])
+-- The number of the first of rows 2 and 3 that applies; 0 where none does.
+unfoldable pub headerRow : Sort → List ℕ → ℕ → ℕ
+headerRow s buf used = firstRow (headerRows s buf used [])
 
 -- By the test of variable numbers alone: row 5 where it fails, and none where it holds.
 abbrev pub rangeRow : Bool → ℕ

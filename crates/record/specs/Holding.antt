@@ -6,24 +6,22 @@ use lib.ListN.{length, take}
 use Rattle.rules.specs.FreeVariables.{Vars}
 use Rattle.rules.specs.Scope.{BlockWithin}
 use Rattle.rules.specs.Sound.{SmallBlock, SoundTerm}
-use Rattle.rules.specs.Store.{fitsWord}
 use Rattle.rules.specs.Syntax.{Block, Term}
-use Rattle.record.specs.Header.{encodeProgram, encodeTerm}
+use Rattle.record.specs.declared.Header.{Header}
+use Rattle.record.specs.Header.{HeaderFits, encodeProgram, encodeTerm, okOf}
 
--- The first `used` bytes of the buffer are the record of the program P of k variables: its variables are 1 to k, and its
--- literals values.
-pub record ProgramIn (k : ℕ) (P : Block) (buf : List ℕ) (used : ℕ) : Type 0 where
+-- The first `used` bytes of the buffer are the record of the program P with this header: its variables are 1 to k, and its
+-- literals pass the header's test.
+pub record ProgramIn (h : Header) (P : Block) (buf : List ℕ) (used : ℕ) : Type 0 where
   pub within : used ≤ length buf
-  pub k-low : 1 ≤ k
-  pub k-high : k ≤ 16
-  pub bytes : take used buf ≡ encodeProgram k P
-  pub variables : BlockWithin k P
-  pub literals : SmallBlock fitsWord P
+  pub header : HeaderFits h
+  pub bytes : take used buf ≡ encodeProgram h P
+  pub variables : BlockWithin (h .k) P
+  pub literals : SmallBlock (okOf h) P
 
 -- The same of the term t: numerals are values, variables 1 to k, tuples of k atoms; only the variables of S are free.
-pub record TermIn (S : Vars) (k : ℕ) (t : Term) (buf : List ℕ) (used : ℕ) : Type 0 where
+pub record TermIn (S : Vars) (h : Header) (t : Term) (buf : List ℕ) (used : ℕ) : Type 0 where
   pub within : used ≤ length buf
-  pub k-low : 1 ≤ k
-  pub k-high : k ≤ 16
-  pub bytes : take used buf ≡ encodeTerm k t
-  pub sound : SoundTerm fitsWord k S t
+  pub header : HeaderFits h
+  pub bytes : take used buf ≡ encodeTerm h t
+  pub sound : SoundTerm (okOf h) (h .k) S t

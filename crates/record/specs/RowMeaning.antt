@@ -10,7 +10,7 @@ use Rattle.buffer.specs.LittleEndian.{Bytes}
 use Rattle.rules.specs.FreeVariables.{Free}
 use Rattle.rules.specs.Scope.{BlockWithin, TermWithin, Within}
 use Rattle.rules.specs.Syntax.{Atom, Block, Term, tuple}
-use Rattle.record.specs.Header.{blockBytes, contents, kindField, lengthField}
+use Rattle.record.specs.Header.{blockBytes, contents, kindField, lengthField, program, term}
 use Rattle.record.specs.Program.{BlockWords}
 use Rattle.record.specs.Rows.{badBlock, badBuffer, badHeader, badK, badStore, badTerm, blockOf, blockOutside, kOf, openTerm, termOf, termOutside, unfinished}
 use Rattle.record.specs.Term.{TermWords, encodeTermRecord}
@@ -20,9 +20,11 @@ use Rattle.record.specs.Term.{TermWords, encodeTermRecord}
 pub record RowsMean : Type 0 where
   -- 1: a buffer above 16,384 bytes, or used length above its buffer
   pub one : (buf : List ℕ) (used : ℕ) → (badBuffer buf used ≡ true) ↔ ((16384 < length buf) ⊎ (length buf < used))
-  -- 2: under 8 bytes used, or wrong kind, or length not the used length
-  pub two : (kind : ℕ) (buf : List ℕ) (used : ℕ)
-      → (badHeader kind buf used ≡ true) ↔ ((used < 8) ⊎ ((kindField (take used buf) ≡ kind → ⊥) ⊎ (lengthField (take used buf) ≡ used → ⊥)))
+  -- 2: under 8 bytes used, or wrong kind, or length not the used length; of a program and of a term
+  pub two : (buf : List ℕ) (used : ℕ)
+      → (badHeader program buf used ≡ true) ↔ ((used < 8) ⊎ ((kindField (take used buf) ≡ 7 → ⊥) ⊎ (lengthField (take used buf) ≡ used → ⊥)))
+  pub twoTerm : (buf : List ℕ) (used : ℕ)
+      → (badHeader term buf used ≡ true) ↔ ((used < 8) ⊎ ((kindField (take used buf) ≡ 40 → ⊥) ⊎ (lengthField (take used buf) ≡ used → ⊥)))
   -- 3: k not 1 to 16
   pub three : (buf : List ℕ) (used : ℕ) → (badK buf used ≡ true) ↔ (Within 16 (kOf buf used) → ⊥)
   -- 4: bytes outside the grammar: no block, and no term of k, has them as its record

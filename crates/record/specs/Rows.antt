@@ -10,7 +10,9 @@ use lib.ListN.{length, take}
 use Rattle.rules.specs.FreeVariables.{closed}
 use Rattle.rules.specs.Scope.{blockInRange, inRange, termInRange}
 use Rattle.rules.specs.Syntax.{Block, Term, empty, letAll, letOne, rec, tuple}
-use Rattle.record.specs.Header.{blockIn, contents, kField, kindField, lengthField, termIn}
+use Rattle.record.specs.declared.Header.{Header}
+use Rattle.record.specs.declared.Sort.{Sort}
+use Rattle.record.specs.Header.{blockIn, contents, contentsAt, headerIn, kField, kindField, kindOf, lengthField, program, term, termIn}
 
 -- A LIST OF ROWS
 
@@ -48,6 +50,10 @@ First (r ∷ rs) n = ((r .applies ≡ true) × (n ≡ r .number)) ⊎ ((r .appli
 -- The bytes of the record that is lent.
 abbrev pub recordIn : List ℕ → ℕ → List ℕ
 recordIn buf used = take used buf
+
+-- The header of the record that is lent.
+abbrev pub headerOf : List ℕ → ℕ → Header
+headerOf buf used = headerIn (recordIn buf used)
 
 -- The k that the header gives.
 abbrev pub kOf : List ℕ → ℕ → ℕ
@@ -94,9 +100,11 @@ tooLong buf = ltb 16384 (length buf)
 unfoldable pub badBuffer : List ℕ → ℕ → Bool
 badBuffer buf used = tooLong buf || ltb (length buf) used
 
--- 2: under 8 bytes used, or wrong kind, or length not the used length
-unfoldable pub badHeader : ℕ → List ℕ → ℕ → Bool
-badHeader kind buf used = ltb used 8 || (not (eqb (kindField (recordIn buf used)) kind) || not (eqb (lengthField (recordIn buf used)) used))
+-- 2: under 8 bytes used, which is the header, or wrong kind, or length not the used length
+unfoldable pub badHeader : Sort → List ℕ → ℕ → Bool
+badHeader s buf used =
+    ltb used (contentsAt (headerOf buf used))
+    || (not (eqb (kindField (recordIn buf used)) (kindOf s (headerOf buf used))) || not (eqb (lengthField (recordIn buf used)) used))
 
 -- 3: k not 1 to 16
 unfoldable pub badK : List ℕ → ℕ → Bool
@@ -137,10 +145,16 @@ finishedTerm (rec x a l t) = false
 unfoldable pub unfinished : List ℕ → ℕ → Bool
 unfinished buf used = holds (λ t. not (finishedTerm t)) (termOf buf used)
 
--- Rows 2 to 5 of a program and of a term, and then more.
-abbrev pub programRows : List ℕ → ℕ → List Row → List Row
-programRows buf used more = row 2 (badHeader 7 buf used) ∷ row 3 (badK buf used) ∷ row 4 (badBlock buf used) ∷ row 5 (blockOutside buf used) ∷ more
+-- THE ROWS OF A CALL that is lent a record: row 1, of every buffer that it is lent, and then those of the record
 
--- The rows of a term.
+-- Rows 2 and 3, of a record of a sort, and then more.
+abbrev pub headerRows : Sort → List ℕ → ℕ → List Row → List Row
+headerRows s buf used more = row 2 (badHeader s buf used) ∷ row 3 (badK buf used) ∷ more
+
+-- Rows 2 to 5 of a program, and then more.
+abbrev pub programRows : List ℕ → ℕ → List Row → List Row
+programRows buf used more = headerRows program buf used (row 4 (badBlock buf used) ∷ row 5 (blockOutside buf used) ∷ more)
+
+-- The same of a term.
 abbrev pub termRows : List ℕ → ℕ → List Row → List Row
-termRows buf used more = row 2 (badHeader 40 buf used) ∷ row 3 (badK buf used) ∷ row 4 (badTerm buf used) ∷ row 5 (termOutside buf used) ∷ more
+termRows buf used more = headerRows term buf used (row 4 (badTerm buf used) ∷ row 5 (termOutside buf used) ∷ more)

@@ -1,6 +1,7 @@
 -- The plan by what code reads of the redex.
 use Prim.Native.Nat.{_*_, _+_, _≤_, suc, zero, ℕ}
 use mathlib.Core.Path.{ap, ap₂, refl, subst, sym, _∙_, _≡_}
+use mathlib.Core.Bool.{Bool, true}
 use mathlib.Core.List.{List}
 use lib.ListN.{length}
 use native.Mathlib.Omega.{arith}
@@ -8,14 +9,17 @@ use Rattle.buffer.specs.LittleEndian.{val}
 use Rattle.buffer.specs.Slice.{part}
 use Rattle.place.specs.TermPath.{redex, termPath, terms}
 use Rattle.place.specs.TermView.{TermAt}
-use Rattle.record.specs.Header.{contentsAt}
+use Rattle.record.specs.declared.Header.{Header}
+use Rattle.record.specs.Header.{contentsAt, okOf}
 use Rattle.record.specs.Holding.{TermIn}
 use Rattle.record.specs.Term.{atomKind, atomNumber, termSize}
-use Rattle.rules.specs.FreeVariables.{noVars}
+use Rattle.rules.specs.FreeVariables.{adding, atomOfSimple, closed, closedAtom, closedAtoms, closedIn, closedSimple, noVars}
 use Rattle.rules.specs.Reduction.{valueOf}
-use Rattle.rules.specs.Sound.{SoundAtom, SoundTerm}
-use Rattle.rules.specs.Store.{fitsWord, minusOne}
-use Rattle.rules.specs.Syntax.{Atom, Term, letAll, letOne, num, rec, ref, tuple}
+use Rattle.rules.specs.Sound.{SoundTerm}
+use Rattle.rules.specs.Store.{minusOne}
+use Rattle.rules.specs.Syntax.{Atom, Simple, Term, letAll, letOne, num, plain, predOf, rec, ref, succOf, tuple}
+use Rattle.rules.proofs.SoundTermLaws.{sound-closed}
+use Rattle.rules.proofs.Tests.{and-both, true-false}
 use Rattle.place.proofs.NestingLaws.{plug-keeps}
 use Rattle.place.proofs.TermBytesLaws.{atomKind-range, kind-num, kind-ref, simple-least}
 use Rattle.place.proofs.TermPathLaws.{plug-redex, redex-at}
@@ -27,18 +31,29 @@ use Rattle.redex.specs.Plan.{planLetOne, planOf, planRec, planRedex}
 
 -- NUMERALS: the atoms of a closed term's redex
 
-closed-kind : (k : ℕ) (a : Atom) → SoundAtom fitsWord k noVars a → atomKind a ≡ 32
-closed-kind k (num n) h =
+closed-kind : (a : Atom) → closedAtom noVars a ≡ true → atomKind a ≡ 32
+unfolding closedAtom
+closed-kind (num n) h =
     let r : atomKind (num n) ≡ 33 → ⊥ = λ e. apart (atomNumber (num n)) (kind-ref (num n) e) in
     omega (arith, atomKind-range (num n), r)
   where
     apart : (x : ℕ) → num n ≡ ref x → ⊥
     apart x e = let z : _≡_ {A = ℕ} 0 1 = cc in omega arith
-closed-kind k (ref x) h = absurd (h .1)
+closed-kind (ref x) h = true-false (sym h)
 
-closed-number : (k : ℕ) (a : Atom) → SoundAtom fitsWord k noVars a → atomNumber a ≡ valueOf a
+closed-number : (a : Atom) → closedAtom noVars a ≡ true → atomNumber a ≡ valueOf a
 unfolding valueOf
-closed-number k a h = sym (ap valueOf (kind-num a (closed-kind k a h)))
+closed-number a h = sym (ap valueOf (kind-num a (closed-kind a h)))
+
+closed-bound : (x : ℕ) (s : Simple) (t : Term) → closed (letOne x s t) ≡ true → closedAtom noVars (atomOfSimple s) ≡ true
+unfolding closed closedIn closedSimple
+closed-bound x (plain a) t h = and-both (closedAtom noVars a) (closedIn (adding x noVars) t) h .0
+closed-bound x (succOf a) t h = and-both (closedAtom noVars a) (closedIn (adding x noVars) t) h .0
+closed-bound x (predOf a) t h = and-both (closedAtom noVars a) (closedIn (adding x noVars) t) h .0
+
+closed-count : (x : ℕ) (a : Atom) (l : List Atom) (t : Term) → closed (rec x a l t) ≡ true → closedAtom noVars a ≡ true
+unfolding closed closedIn
+closed-count x a l t h = and-both (closedAtom noVars a) (closedAtoms noVars l) h .0
 
 -- THE REDEX, by the kinds read
 
@@ -48,72 +63,72 @@ module _ {l : List ℕ} {at k : ℕ} {t : Term} (h : TermAt l at k t) where
     pub one-room : at + 20 ≤ length l
     one-room = let v = as-letOne h one in omega (arith, v .room, v .size, simple-least (v .bound))
 
-    module _ (c : SoundTerm fitsWord k noVars t) (levels x : ℕ) (ex : x ≡ val (part l (at + 4) 4)) where
-      pub let-atom : val (part l (at + 10) 2) ≡ 32 → (n : ℕ) → n ≡ val (part l (at + 12) 4) → plan levels at Bind x n 0 16 ≡ planRedex levels at t
+    module _ (c : closed t ≡ true) (ok : ℕ → Bool) (levels x : ℕ) (ex : x ≡ val (part l (at + 4) 4)) where
+      pub let-atom : val (part l (at + 10) 2) ≡ 32 → (n : ℕ) → n ≡ val (part l (at + 12) 4) → plan levels at Bind x n 0 16 ≡ planRedex ok levels at t
       unfolding planRedex planLetOne
       let-atom e n en =
           let v = as-letAtom h one (omega arith) in
-          let w = subst (SoundTerm fitsWord k noVars) (v .is) c in
-          ap₂ (λ (m d : ℕ). plan levels at Bind m d 0 16) (ex ∙ v .variable-read) (en ∙ v .number-read ∙ closed-number k (v .atom) (w .1))
-          ∙ sym (ap (planRedex levels at) (v .is))
+          let w = ap closed (sym (v .is)) ∙ c in
+          ap₂ (λ (m d : ℕ). plan levels at Bind m d 0 16) (ex ∙ v .variable-read) (en ∙ v .number-read ∙ closed-number (v .atom) (closed-bound (v .variable) (plain (v .atom)) (v .last) w))
+          ∙ sym (ap (planRedex ok levels at) (v .is))
 
-      pub let-pred : val (part l (at + 10) 2) ≡ 35 → (n : ℕ) → n ≡ val (part l (at + 16) 4) → plan levels at Evaluate x (minusOne n) 0 4 ≡ planRedex levels at t
+      pub let-pred : val (part l (at + 10) 2) ≡ 35 → (n : ℕ) → n ≡ val (part l (at + 16) 4) → plan levels at Evaluate x (minusOne n) 0 4 ≡ planRedex ok levels at t
       unfolding planRedex planLetOne
       let-pred e n en =
           let v = as-letPred h one e in
-          let w = subst (SoundTerm fitsWord k noVars) (v .is) c in
-          ap₂ (λ (m d : ℕ). plan levels at Evaluate m (minusOne d) 0 4) (ex ∙ v .variable-read) (en ∙ v .number-read ∙ closed-number k (v .atom) (w .1))
-          ∙ sym (ap (planRedex levels at) (v .is))
+          let w = ap closed (sym (v .is)) ∙ c in
+          ap₂ (λ (m d : ℕ). plan levels at Evaluate m (minusOne d) 0 4) (ex ∙ v .variable-read) (en ∙ v .number-read ∙ closed-number (v .atom) (closed-bound (v .variable) (predOf (v .atom)) (v .last) w))
+          ∙ sym (ap (planRedex ok levels at) (v .is))
 
       -- a variable would be free
       not-open : val (part l (at + 10) 2) ≡ 33 → ⊥
       not-open e =
           let v = as-letAtom h one (omega arith) in
-          let w = subst (SoundTerm fitsWord k noVars) (v .is) c in
-          omega (arith, v .kind-read, closed-kind k (v .atom) (w .1))
+          let w = ap closed (sym (v .is)) ∙ c in
+          omega (arith, v .kind-read, closed-kind (v .atom) (closed-bound (v .variable) (plain (v .atom)) (v .last) w))
 
       succ-kind : (val (part l (at + 10) 2) ≡ 32 → ⊥) → (val (part l (at + 10) 2) ≡ 35 → ⊥) → val (part l (at + 10) 2) ≡ 34
       succ-kind a b = omega (arith, simple-kind h one, not-open)
 
       pub let-succ : (val (part l (at + 10) 2) ≡ 32 → ⊥) → (val (part l (at + 10) 2) ≡ 35 → ⊥) → (n : ℕ) → n ≡ val (part l (at + 16) 4)
-          → planRaise levels at x (suc n) 4 (fitsWord (suc n)) ≡ planRedex levels at t
+          → planRaise levels at x (suc n) 4 (ok (suc n)) ≡ planRedex ok levels at t
       unfolding planRedex planLetOne
       let-succ a b n en =
           let v = as-letSucc h one (succ-kind a b) in
-          let w = subst (SoundTerm fitsWord k noVars) (v .is) c in
-          ap₂ (λ (m d : ℕ). planRaise levels at m (suc d) 4 (fitsWord (suc d))) (ex ∙ v .variable-read) (en ∙ v .number-read ∙ closed-number k (v .atom) (w .1))
-          ∙ sym (ap (planRedex levels at) (v .is))
+          let w = ap closed (sym (v .is)) ∙ c in
+          ap₂ (λ (m d : ℕ). planRaise levels at m (suc d) 4 (ok (suc d))) (ex ∙ v .variable-read) (en ∙ v .number-read ∙ closed-number (v .atom) (closed-bound (v .variable) (succOf (v .atom)) (v .last) w))
+          ∙ sym (ap (planRedex ok levels at) (v .is))
 
   module _ (r : val (part l (at + 2) 2) ≡ 39) where
     -- all that is read of a rec; its body's length is the record's but for 24 bytes and the start tuple's atoms
     pub rec-room : (at + 20 ≤ length l) × (24 + 8 * k ≤ val (part l at 2))
     rec-room = let v = as-rec h r in (omega (arith, v .room, v .size), omega (arith, v .stored))
 
-    module _ (c : SoundTerm fitsWord k noVars t) (levels x b : ℕ) (ex : x ≡ val (part l (at + 4) 4)) (eb : b + (24 + 8 * k) ≡ val (part l at 2)) where
-      rec-plan : planRec levels at x b (val (part l (at + 12) 4)) ≡ planRedex levels at t
+    module _ (c : closed t ≡ true) (ok : ℕ → Bool) (levels x b : ℕ) (ex : x ≡ val (part l (at + 4) 4)) (eb : b + (24 + 8 * k) ≡ val (part l at 2)) where
+      rec-plan : planRec levels at x b (val (part l (at + 12) 4)) ≡ planRedex ok levels at t
       unfolding planRedex
       rec-plan =
           let v = as-rec h r in
-          let w = subst (SoundTerm fitsWord k noVars) (v .is) c in
+          let w = ap closed (sym (v .is)) ∙ c in
           let s : b ≡ termSize (v .body) = omega (arith, v .stored) in
-          ap₂ (λ (m d : ℕ). planRec levels at m b d) (ex ∙ v .variable-read) (v .number-read ∙ closed-number k (v .count) (w .1))
+          ap₂ (λ (m d : ℕ). planRec levels at m b d) (ex ∙ v .variable-read) (v .number-read ∙ closed-number (v .count) (closed-count (v .variable) (v .count) (v .start) (v .body) w))
           ∙ ap (λ (m : ℕ). planRec levels at (v .variable) m (valueOf (v .count))) s
-          ∙ sym (ap (planRedex levels at) (v .is))
+          ∙ sym (ap (planRedex ok levels at) (v .is))
 
-      pub rec-stop : (n : ℕ) → n ≡ val (part l (at + 12) 4) → n ≡ 0 → plan levels at Stop x 0 0 (20 + b) ≡ planRedex levels at t
+      pub rec-stop : (n : ℕ) → n ≡ val (part l (at + 12) 4) → n ≡ 0 → plan levels at Stop x 0 0 (20 + b) ≡ planRedex ok levels at t
       unfolding planRec
       rec-stop n en z = ap (planRec levels at x b) (sym z ∙ en) ∙ rec-plan
 
-      pub rec-unroll : (n : ℕ) → n ≡ val (part l (at + 12) 4) → (n ≡ 0 → ⊥) → plan levels at Unroll x n (24 + b) 0 ≡ planRedex levels at t
+      pub rec-unroll : (n : ℕ) → n ≡ val (part l (at + 12) 4) → (n ≡ 0 → ⊥) → plan levels at Unroll x n (24 + b) 0 ≡ planRedex ok levels at t
       rec-unroll n en z = go n z ∙ ap (planRec levels at x b) en ∙ rec-plan
         where
           go : (m : ℕ) → (m ≡ 0 → ⊥) → plan levels at Unroll x m (24 + b) 0 ≡ planRec levels at x b m
           go zero f = absurd (f refl)
           go (suc q) f = unfold planRec in refl
 
-  pub tuple-plan : (levels : ℕ) → val (part l (at + 2) 2) ≡ 36 → plan levels at Finished 0 0 0 0 ≡ planRedex levels at t
+  pub tuple-plan : (ok : ℕ → Bool) (levels : ℕ) → val (part l (at + 2) 2) ≡ 36 → plan levels at Finished 0 0 0 0 ≡ planRedex ok levels at t
   unfolding planRedex
-  tuple-plan levels e = let v = as-tuple h e in sym (ap (planRedex levels at) (v .is))
+  tuple-plan ok levels e = let v = as-tuple h e in sym (ap (planRedex ok levels at) (v .is))
 
 -- THE WHOLE TERM
 
@@ -128,24 +143,33 @@ redex-tuple (letAll (letOne x b t) v) s u e = let z : _≡_ {A = ℕ} 0 1 = cc i
 redex-tuple (letAll (letAll a b) v) s u e = redex-tuple (letAll a b) s u e
 redex-tuple (letAll (rec x a ys t) v) s u e = let z : _≡_ {A = ℕ} 0 1 = cc in absurd (omega arith)
 
-pub redex-sound : (k : ℕ) (t : Term) → SoundTerm fitsWord k noVars t → SoundTerm fitsWord k noVars (redex t)
-redex-sound k t h =
-    plug-keeps terms (SoundTerm fitsWord k noVars) (λ s u w. w .0) (termPath t) (redex t) (subst (SoundTerm fitsWord k noVars) (sym (plug-redex t)) h)
+redex-sound : (ok : ℕ → Bool) (k : ℕ) (t : Term) → SoundTerm ok k noVars t → SoundTerm ok k noVars (redex t)
+redex-sound ok k t h =
+    plug-keeps terms (SoundTerm ok k noVars) (λ s u w. w .0) (termPath t) (redex t) (subst (SoundTerm ok k noVars) (sym (plug-redex t)) h)
 
-module _ {k : ℕ} {t : Term} {l : List ℕ} {used : ℕ} (h : TermIn noVars k t l used) (low : length l ≤ 16384) (levels : ℕ) (e : levels ≡ length (termPath t)) where
-  -- the redex stands behind the header and the heads of the open let-alls
-  pub found : TermAt l (contentsAt + 4 * levels) k (redex t)
-  found = term-index (redex-at (term-at h low)) (ap (λ (n : ℕ). contentsAt + 4 * n) (sym e))
+module _ {hd : Header} {t : Term} {l : List ℕ} {used k contents : ℕ} (h : TermIn noVars hd t l used) (is-k : hd .k ≡ k) (st : contentsAt hd ≡ contents) (low : length l ≤ 16384) where
+  -- the term stands behind the header
+  pub whole : TermAt l contents k t
+  whole = subst (λ (n : ℕ). TermAt l contents n t) is-k (term-index (term-at h low) st)
 
-  pub plan-found : planRedex levels (contentsAt + 4 * levels) (redex t) ≡ planOf t
-  unfolding planOf
-  plan-found = ap (λ (n : ℕ). planRedex n (contentsAt + 4 * n) (redex t)) e
+  pub redex-closed : closed (redex t) ≡ true
+  redex-closed = sound-closed (okOf hd) (hd .k) (redex t) (redex-sound (okOf hd) (hd .k) t (h .sound))
 
-  pub plan-letAll : val (part l (contentsAt + 4 * levels + 2) 2) ≡ 38 → plan levels (contentsAt + 4 * levels) Leave 0 0 0 (8 + 8 * k) ≡ planOf t
-  unfolding planRedex
-  plan-letAll q =
-      let v = as-letAll found q in
-      let y = redex-tuple t (v .first) (v .last) (v .is) in
-      let is : redex t ≡ letAll (tuple (y .0)) (v .last) = v .is ∙ ap (λ (s : Term). letAll s (v .last)) (y .1) in
-      let n : length (y .0) ≡ k = term-same found is .words .0 .0 in
-      ap (λ (m : ℕ). plan levels (contentsAt + 4 * levels) Leave 0 0 0 (8 + 8 * m)) (sym n) ∙ sym (ap (planRedex levels (contentsAt + 4 * levels)) is) ∙ plan-found
+  module _ (levels : ℕ) (e : levels ≡ length (termPath t)) where
+    -- the redex stands behind the heads of the open let-alls
+    pub found : TermAt l (contents + 4 * levels) k (redex t)
+    found = term-index (redex-at whole) (ap (λ (n : ℕ). contents + 4 * n) (sym e))
+
+    module _ (ok : ℕ → Bool) where
+      pub plan-found : planRedex ok levels (contents + 4 * levels) (redex t) ≡ planOf contents ok t
+      unfolding planOf
+      plan-found = ap (λ (n : ℕ). planRedex ok n (contents + 4 * n) (redex t)) e
+
+      pub plan-letAll : val (part l (contents + 4 * levels + 2) 2) ≡ 38 → plan levels (contents + 4 * levels) Leave 0 0 0 (8 + 8 * k) ≡ planOf contents ok t
+      unfolding planRedex
+      plan-letAll q =
+          let v = as-letAll found q in
+          let y = redex-tuple t (v .first) (v .last) (v .is) in
+          let is : redex t ≡ letAll (tuple (y .0)) (v .last) = v .is ∙ ap (λ (s : Term). letAll s (v .last)) (y .1) in
+          let n : length (y .0) ≡ k = term-same found is .words .0 .0 in
+          ap (λ (m : ℕ). plan levels (contents + 4 * levels) Leave 0 0 0 (8 + 8 * m)) (sym n) ∙ sym (ap (planRedex ok levels (contents + 4 * levels)) is) ∙ plan-found

@@ -5,7 +5,8 @@ use mathlib.Core.Logic.{Iff·trans}
 use mathlib.Core.List.{List, [], _∷_}
 use lib.ListN.{length}
 use native.Mathlib.Omega.{arith}
-use Rattle.record.specs.Header.{encodeTerm}
+use Rattle.record.specs.declared.Header.{Header}
+use Rattle.record.specs.Header.{encodeTerm, okOf}
 use Rattle.record.specs.Holding.{TermIn}
 use Rattle.record.specs.Rows.{firstRow, openTerm, row}
 use Rattle.record.specs.Term.{same}
@@ -13,17 +14,16 @@ use Rattle.rules.specs.FreeVariables.{Vars, noVars}
 use Rattle.rules.specs.Reduction.{reduce}
 use Rattle.rules.specs.Run.{Ran}
 use Rattle.rules.specs.Sound.{SoundTerm}
-use Rattle.rules.specs.Store.{fitsWord}
 use Rattle.rules.specs.Syntax.{Term}
 use Rattle.run.specs.RunAnswer.{refusal, roomFor}
 use Rattle.record.proofs.PaddedLaws.{length-padded}
 use Rattle.record.proofs.HeldLaws.{good-buffer}
-use Rattle.record.proofs.HoldingLaws.{padded-term, term-is, term-k, term-open, term-passes, term-size, term-used}
+use Rattle.record.proofs.HoldingLaws.{padded-term, term-header, term-is, term-open, term-passes, term-size, term-used}
 use Rattle.record.proofs.RowLaws.{first-none, none-first, not-intro}
 use Rattle.rules.proofs.FinishedLaws.{reduce-finished}
 use Rattle.rules.proofs.RunLaws.{run-reached}
 use Rattle.rules.proofs.SoundTermLaws.{sound-closed, sound-reductions}
-use Rattle.rules.proofs.StoreLaws.{word-limit}
+use Rattle.record.proofs.HeaderLaws.{ok-limit}
 use Rattle.run.proofs.RanLaws.{run-answers, run-stays}
 use Rattle.reducer.specs.ReducerRan.{ReducerRan}
 use Rattle.reducer.specs.RunReducer.{reducedTo, reducerBy, reducerRows, reductions, runReducer}
@@ -56,47 +56,47 @@ pub record ReducerTakes (buf : List ℕ) (used n : ℕ) : Type 0 where
   -- the used length is the record's own
   pub same : n ≡ used
 
-pub reducer-takes : {S : Vars} {k : ℕ} {t : Term} {buf : List ℕ} {used : ℕ} → TermIn S k t buf used → (n : ℕ) → firstRow (reducerRows buf n) ≡ 0 → ReducerTakes buf used n
-reducer-takes {S} {k} {t} {buf} {used} h n e =
+pub reducer-takes : {S : Vars} {hd : Header} {t : Term} {buf : List ℕ} {used : ℕ} → TermIn S hd t buf used → (n : ℕ) → firstRow (reducerRows buf n) ≡ 0 → ReducerTakes buf used n
+reducer-takes {S} {hd} {t} {buf} {used} h n e =
     let r = first-none (reducerRows buf n) refl e in
     let low = good-buffer buf n (r .0) .low in
     record { low = low; same = term-used h n low (r .1 .0) }
 
-pub reducer-passes : {k : ℕ} {t : Term} {buf : List ℕ} {used : ℕ} → TermIn noVars k t buf used → length buf ≤ 16384 → firstRow (reducerRows buf used) ≡ 0
-reducer-passes {k} {t} {buf} {used} h l =
+pub reducer-passes : {hd : Header} {t : Term} {buf : List ℕ} {used : ℕ} → TermIn noVars hd t buf used → length buf ≤ 16384 → firstRow (reducerRows buf used) ≡ 0
+reducer-passes {hd} {t} {buf} {used} h l =
     none-first (reducerRows buf used)
-    (term-passes h l (row 7 (openTerm buf used) ∷ []) (term-open h l ∙ not-intro (sound-closed fitsWord k t (h .sound)), tt))
+    (term-passes h l (row 7 (openTerm buf used) ∷ []) (term-open h l ∙ not-intro (sound-closed (okOf hd) (hd .k) t (h .sound)), tt))
 
 -- AN ACCEPTED RUN is the rules' run of the term that is lent
 
-module _ {k : ℕ} {t : Term} {buf : List ℕ} {used : ℕ} (h : TermIn noVars k t buf used) (l : length buf ≤ 16384) (budget : ℕ) where
+module _ {hd : Header} {t : Term} {buf : List ℕ} {used : ℕ} (h : TermIn noVars hd t buf used) (l : length buf ≤ 16384) (budget : ℕ) where
   abbrev ran : Ran Term
-  ran = reductions k (length buf) budget t
+  ran = reductions hd (length buf) budget t
 
-  pub reducer-is : runReducer buf used budget ≡ reducedTo k (length buf) budget ran
+  pub reducer-is : runReducer buf used budget ≡ reducedTo hd (length buf) budget ran
   unfolding runReducer reducerBy
-  reducer-is = ap (λ (m : ℕ). reducerBy m buf used budget) (reducer-passes h l) ∙ rw (term-is h l, term-k h) refl
+  reducer-is = ap (λ (m : ℕ). reducerBy m buf used budget) (reducer-passes h l) ∙ rw (term-is h l, term-header h) refl
 
-  sound-left : SoundTerm fitsWord k noVars (ran .state)
+  sound-left : SoundTerm (okOf hd) (hd .k) noVars (ran .state)
   sound-left =
-      sound-reductions fitsWord word-limit k (ran .count) t (ran .state) (h .sound)
-      (run-reached (reduce fitsWord) (roomFor (encodeTerm k) (length buf)) budget t)
+      sound-reductions (okOf hd) (ok-limit hd) (hd .k) (ran .count) t (ran .state) (h .sound)
+      (run-reached (reduce (okOf hd)) (roomFor (encodeTerm hd) (length buf)) budget t)
 
-  roomy : length (encodeTerm k (ran .state)) ≤ length buf
-  roomy = run-stays (reduce fitsWord) (encodeTerm k) (length buf) t budget (omega (arith, term-size h, h .within))
+  roomy : length (encodeTerm hd (ran .state)) ≤ length buf
+  roomy = run-stays (reduce (okOf hd)) (encodeTerm hd) (length buf) t budget (omega (arith, term-size h, h .within))
 
-  reduced : ReducerRan k t (length buf) budget (reducedTo k (length buf) budget ran)
+  reduced : ReducerRan hd t (length buf) budget (reducedTo hd (length buf) budget ran)
   unfolding reducedTo
   reduced =
-      let answers = run-answers (reduce fitsWord) (encodeTerm k) (length buf) t budget in
+      let answers = run-answers (reduce (okOf hd)) (encodeTerm hd) (length buf) t budget in
       record {
         t = ran .state;
         ran = answers;
         bytes = refl;
-        finishes = Iff·trans (answers .finishes) (reduce-finished fitsWord (ran .state));
-        again = padded-term noVars k (ran .state) (length buf) (h .k-low) (h .k-high) sound-left;
-        sameRoom = length-padded (length buf) (encodeTerm k (ran .state)) roomy;
+        finishes = Iff·trans (answers .finishes) (reduce-finished (okOf hd) (ran .state));
+        again = padded-term noVars hd (ran .state) (length buf) (h .header) sound-left;
+        sameRoom = length-padded (length buf) (encodeTerm hd (ran .state)) roomy;
       }
 
-  pub reducer-ran : ReducerRan k t (length buf) budget (runReducer buf used budget)
-  reducer-ran = subst (ReducerRan k t (length buf) budget) (sym reducer-is) reduced
+  pub reducer-ran : ReducerRan hd t (length buf) budget (runReducer buf used budget)
+  reducer-ran = subst (ReducerRan hd t (length buf) budget) (sym reducer-is) reduced

@@ -5,25 +5,25 @@ use mathlib.Core.Logic.{_↔_}
 use mathlib.Core.List.{List}
 use lib.ListN.{length}
 use Rattle.record.specs.Answers.{padded}
-use Rattle.record.specs.Header.{encodeTerm}
+use Rattle.record.specs.declared.Header.{Header}
+use Rattle.record.specs.Header.{encodeTerm, okOf}
 use Rattle.record.specs.Holding.{TermIn}
 use Rattle.rules.specs.FreeVariables.{noVars}
 use Rattle.rules.specs.Reduction.{reduce}
 use Rattle.rules.specs.Run.{isFinished}
-use Rattle.rules.specs.Store.{fitsWord}
 use Rattle.rules.specs.Syntax.{Atom, Term, tuple}
 use Rattle.run.specs.RanFrom.{RanFrom}
 use Rattle.reducer.specs.RunReducer.{ReducerCall}
 
--- From the term t₀ of k variables, in a buffer of `room` bytes.
-pub record ReducerRan (k : ℕ) (t₀ : Term) (room budget : ℕ) (r : ReducerCall) : Type 0 where
+-- From the term t₀ with this header, in a buffer of `room` bytes.
+pub record ReducerRan (h : Header) (t₀ : Term) (room budget : ℕ) (r : ReducerCall) : Type 0 where
   -- the term left
   pub t : Term
-  pub ran : RanFrom (reduce fitsWord) (encodeTerm k) t₀ room budget (r .answer) t
+  pub ran : RanFrom (reduce (okOf h)) (encodeTerm h) t₀ room budget (r .answer) t
   -- it stands in the buffer with zeros behind it
-  pub bytes : r .buf ≡ padded room (encodeTerm k t)
+  pub bytes : r .buf ≡ padded room (encodeTerm h t)
   -- finished: a tuple
   pub finishes : (r .answer .outcome ≡ isFinished) ↔ ((l : List Atom) × (t ≡ tuple l))
   -- it passes the checks again, closed, in a buffer of the same length
-  pub again : TermIn noVars k t (r .buf) (r .answer .used)
+  pub again : TermIn noVars h t (r .buf) (r .answer .used)
   pub sameRoom : length (r .buf) ≡ room

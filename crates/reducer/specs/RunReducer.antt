@@ -3,11 +3,11 @@ use Prim.Native.Nat.{suc, zero, ℕ}
 use mathlib.Core.List.{List, [], _∷_}
 use lib.ListN.{length}
 use Rattle.record.specs.Answers.{padded}
-use Rattle.record.specs.Header.{encodeTerm}
-use Rattle.record.specs.Rows.{Row, badBuffer, firstRow, kOf, openTerm, row, termRows, theTermOf}
+use Rattle.record.specs.declared.Header.{Header}
+use Rattle.record.specs.Header.{encodeTerm, okOf}
+use Rattle.record.specs.Rows.{Row, badBuffer, firstRow, headerOf, openTerm, row, termRows, theTermOf}
 use Rattle.rules.specs.Reduction.{reduce}
 use Rattle.rules.specs.Run.{Ran}
-use Rattle.rules.specs.Store.{fitsWord}
 use Rattle.rules.specs.Syntax.{Term}
 use Rattle.run.specs.RunAnswer.{RunAnswer, accepted, refusal, runIn}
 
@@ -16,15 +16,15 @@ pub record ReducerCall : Type 0 where
   pub answer : RunAnswer
   pub buf : List ℕ
 
--- The rules' run from a term of k variables, in a buffer of `room` bytes.
-abbrev pub reductions : ℕ → ℕ → ℕ → Term → Ran Term
-reductions k room budget t = runIn (reduce fitsWord) (encodeTerm k) room budget t
+-- The rules' run from a term, in a buffer of `room` bytes.
+abbrev pub reductions : Header → ℕ → ℕ → Term → Ran Term
+reductions h room budget t = runIn (reduce (okOf h)) (encodeTerm h) room budget t
 
 -- What a run leaves: the record of the term left, and zeros behind it.
-unfoldable pub reducedTo : ℕ → ℕ → ℕ → Ran Term → ReducerCall
-reducedTo k room budget r = record {
-  answer = accepted budget r (length (encodeTerm k (r .state)));
-  buf = padded room (encodeTerm k (r .state));
+unfoldable pub reducedTo : Header → ℕ → ℕ → Ran Term → ReducerCall
+reducedTo h room budget r = record {
+  answer = accepted budget r (length (encodeTerm h (r .state)));
+  buf = padded room (encodeTerm h (r .state));
 }
 
 -- The rows of the call, in the order of 01's table.
@@ -34,7 +34,7 @@ reducerRows buf used = row 1 (badBuffer buf used) ∷ termRows buf used (row 7 (
 -- By the number of the first row that applies, 0 where none does: the run, or a refusal and the buffer as it came.
 unfoldable pub reducerBy : ℕ → List ℕ → ℕ → ℕ → ReducerCall
 reducerBy zero buf used budget =
-    reducedTo (kOf buf used) (length buf) budget (reductions (kOf buf used) (length buf) budget (theTermOf buf used))
+    reducedTo (headerOf buf used) (length buf) budget (reductions (headerOf buf used) (length buf) budget (theTermOf buf used))
 reducerBy (suc n) buf used budget = record { answer = refusal (suc n); buf = buf }
 
 -- THE CALL: buffer, used length, budget.

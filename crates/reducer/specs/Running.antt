@@ -3,6 +3,7 @@ use Prim.Native.Nat.{ℕ, _≤_}
 use mathlib.Core.Path.{_≡_}
 use mathlib.Core.List.{List}
 use lib.ListN.{length}
+use Rattle.record.specs.declared.Header.{Header}
 use Rattle.record.specs.Holding.{TermIn}
 use Rattle.rules.specs.FreeVariables.{noVars}
 use Rattle.rules.specs.Syntax.{Term}
@@ -10,14 +11,14 @@ use Rattle.run.specs.declared.RunEnd.{RunEnd}
 use Rattle.run.specs.Represents.{asRunAnswer}
 use Rattle.reducer.specs.RunReducer.{ReducerCall, reducedTo, reductions}
 
--- What rows 1 to 5 and 7 let through: the record of the closed term t of k variables in the buffer.
-pub record Accepted (k : ℕ) (t : Term) (buf : List ℕ) (used : ℕ) : Type 0 where
-  pub holds : TermIn noVars k t buf used
+-- What rows 1 to 5 and 7 let through: the record of the closed term t in the buffer.
+pub record Accepted (h : Header) (t : Term) (buf : List ℕ) (used : ℕ) : Type 0 where
+  pub holds : TermIn noVars h t buf used
   pub short : length buf ≤ 16384
 
 -- The run of what is accepted.
-abbrev pub acceptedRun : ℕ → Term → ℕ → ℕ → ReducerCall
-acceptedRun k t room budget = reducedTo k room budget (reductions k room budget t)
+abbrev pub acceptedRun : Header → Term → ℕ → ℕ → ReducerCall
+acceptedRun h t room budget = reducedTo h room budget (reductions h room budget t)
 
 -- The code's answer and buffer are those of a call.
 abbrev pub Gives : RunEnd → List ℕ → ReducerCall → Type 0

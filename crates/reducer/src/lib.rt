@@ -7,29 +7,33 @@ ghost use Rattle.reducer.specs.RunReducer.{runReducer};
 ghost use Rattle.reducer.specs.Running.{Accepted, Gives, acceptedRun};
 use filling::closed::is_closed;
 use plan::outcome_of;
+use record::Header;
 use redex::look;
 use reducing::perform;
 use run::RunEnd;
 use run::Tally;
 use term_checker::check_term;
 
-// The run of what the rows let through, a closed term of k variables. The bytes behind the record are made zero first, and every
+// The run of what the rows let through, a closed term. The bytes behind the record are made zero first, and every
 // reduction leaves them so; room is looked for in the whole lent buffer.
-fn run_accepted(buf: &mut [u8], used: usize, k: u32, budget: u32) -> RunEnd
-    requires { ⌜ ((t : Term) × Accepted k t (now buf) used) ⌝ }
-    ensures { λ r. ⌜ ((t : Term) → Accepted k t (now (buf .entry)) used → Gives r (now (buf .exit)) (acceptedRun k t (length (now (buf .entry))) budget)) ⌝ }
+pub fn run_accepted(buf: &mut [u8], used: usize, h: Header, budget: u32) -> RunEnd
+    requires { ⌜ ((t : Term) × Accepted h t (now buf) used) ⌝ }
+    ensures { λ r. ⌜ ((t : Term) → Accepted h t (now (buf .entry)) used → Gives r (now (buf .exit)) (acceptedRun h t (length (now (buf .entry))) budget)) ⌝ }
 {
+    let k = h.k;
+    let contents = h.contents_at();
+    let largest = h.largest();
     let room = buf.len();
     buffer::zero(buf, used, room - used);
     let mut size = used;
     let mut tally = Tally::start(budget);
     loop {
-        let plan = look(buf, k);
+        let plan = look(buf, k, contents, largest);
         let outcome = outcome_of(plan, size, room);
         if run::ends(outcome, tally) {
             return run::answer(outcome, tally, size as u32);
         }
-        size = perform(buf, size, k, plan);
+        size = perform(buf, size, k, plan, contents);
         tally = tally.advance();
     }
 }
@@ -43,9 +47,9 @@ pub fn run_reducer(buf: &mut [u8], used: usize, budget: u32) -> RunEnd
     if number != 0 {
         return run::refuse(number);
     }
-    let k = checked.k;
-    if !is_closed(buf, used, k) {
+    let h = record::read_header(buf);
+    if !is_closed(buf, used, h) {
         return run::refuse(7);
     }
-    run_accepted(buf, used, k, budget)
+    run_accepted(buf, used, h, budget)
 }

@@ -9,12 +9,12 @@ use Rattle.buffer.specs.Slice.{part, put, zeros}
 use Rattle.buffer.proofs.LittleEndianLaws.{length-le}
 use Rattle.buffer.proofs.SliceLaws.{drop-put, length-part, length-put, zeros-add}
 use Rattle.record.specs.Answers.{padded}
-use Rattle.record.specs.Header.{contentsAt, encodeTerm}
+use Rattle.record.specs.declared.Header.{Header}
+use Rattle.record.specs.Header.{contentsAt, encodeTerm, okOf}
 use Rattle.record.specs.Term.{encodeTermRecord, simpleSize, termSize}
 use Rattle.rules.specs.FreeVariables.{adding, allVars, closed, closedIn, noVars}
 use Rattle.rules.specs.Reduction.{reduce, valueOf}
 use Rattle.rules.specs.Sound.{SoundTerm}
-use Rattle.rules.specs.Store.{fitsWord}
 use Rattle.rules.specs.Substitution.{Substitution, fromStore, only, substitute}
 use Rattle.rules.specs.Syntax.{Atom, Simple, Term, letAll, letOne, next, num, plain, rec, tuple}
 use Rattle.place.specs.Edit.{lead, leafBytes, removed, unrolled}
@@ -48,9 +48,9 @@ use Rattle.redex.specs.Plan.{planOf}
 use Rattle.reducing.proofs.PlanLaws.{Planned, planned-redex, plannedBind, plannedEvaluate, plannedFinished, plannedLeave, plannedOver, plannedStop, plannedUnroll, redex-reduces}
 use Rattle.reducing.proofs.StateLaws.{redex-bytes, redex-room, redex-sound, redex-stands, redex-used, stands-after, zeros-behind}
 
-module _ {k : ℕ} {t : Term} {l : List ℕ} {used : ℕ} (h : Stands k t l used) where
+module _ {hd : Header} {t : Term} {l : List ℕ} {used : ℕ} (h : Stands hd t l used) where
   abbrev place : ℕ
-  place = contentsAt + 4 * length (termPath t)
+  place = contentsAt hd + 4 * length (termPath t)
 
   fits-buf : used ≤ length l
   fits-buf = h .holds .within
@@ -65,54 +65,54 @@ module _ {k : ℕ} {t : Term} {l : List ℕ} {used : ℕ} (h : Stands k t l used
   -- the redex is t₀
   module _ (t₀ : Term) (is : redex t ≡ t₀) where
     front : List ℕ
-    front = termFront k (termPath t) (4 + termSize t₀)
+    front = termFront hd (termPath t) (4 + termSize t₀)
 
     bytes₀ : take used l ≡ front ++ (encodeTermRecord t₀ ++ rests terms (termPath t))
     unfolding front
-    bytes₀ = subst (λ (u : Term). take used l ≡ termFront k (termPath t) (4 + termSize u) ++ (encodeTermRecord u ++ rests terms (termPath t))) is (redex-bytes h)
+    bytes₀ = subst (λ (u : Term). take used l ≡ termFront hd (termPath t) (4 + termSize u) ++ (encodeTermRecord u ++ rests terms (termPath t))) is (redex-bytes h)
 
-    used₀ : contentsAt + (4 + termSize t₀ + around terms (termPath t)) ≡ used
-    used₀ = subst (λ (u : Term). contentsAt + (4 + termSize u + around terms (termPath t)) ≡ used) is (redex-used h)
+    used₀ : contentsAt hd + (4 + termSize t₀ + around terms (termPath t)) ≡ used
+    used₀ = subst (λ (u : Term). contentsAt hd + (4 + termSize u + around terms (termPath t)) ≡ used) is (redex-used h)
 
     room₀ : place + (4 + termSize t₀) ≤ used
     room₀ = subst (λ (u : Term). place + (4 + termSize u) ≤ used) is (redex-room h)
 
     front₀ : length front ≡ place
     unfolding front
-    front₀ = length-termFront k (termPath t) (4 + termSize t₀)
+    front₀ = length-termFront hd (termPath t) (4 + termSize t₀)
 
-    at₀ : TermAt l place k t₀
+    at₀ : TermAt l place (hd .k) t₀
     at₀ = term-same (redex-stands h) is
 
-    sound₀ : SoundTerm fitsWord k noVars t₀
-    sound₀ = subst (λ (u : Term). SoundTerm fitsWord k noVars u) is (redex-sound h)
+    sound₀ : SoundTerm (okOf hd) (hd .k) noVars t₀
+    sound₀ = subst (λ (u : Term). SoundTerm (okOf hd) (hd .k) noVars u) is (redex-sound h)
 
     -- any edit m of the bytes that leaves the term u there, and zeros behind the record
-    made : (u : Term) (m : List ℕ) (up down size : ℕ) → Redex t₀ → reduce fitsWord t₀ ≡ next u → termSize u + down ≡ termSize t₀ + up → used + up - down ≡ size
+    made : (u : Term) (m : List ℕ) (up down size : ℕ) → Redex t₀ → reduce (okOf hd) t₀ ≡ next u → termSize u + down ≡ termSize t₀ + up → used + up - down ≡ size
         → size ≤ length l → take size m ≡ front ++ (encodeTermRecord u ++ rests terms (termPath t)) → drop size m ≡ zeros (length l - size)
-        → Performed k t (length l) (relengthAll (shifted up down) (length (termPath t)) m) (used + up - down)
+        → Performed hd t (length l) (relengthAll (shifted up down) (contentsAt hd) (length (termPath t)) m) (used + up - down)
     unfolding front
     made u m up down size r st sizes new fits bytes tail =
         let d : Term = plug terms (termPath t) u in
-        let goes : reduce fitsWord t ≡ next d = redex-reduces t t₀ u is r st in
+        let goes : reduce (okOf hd) t ≡ next d = redex-reduces (okOf hd) t t₀ u is r st in
         let short : used < 65536 = omega (arith, h .short, h .holds .within) in
-        let ld : length (encodeTerm k d) ≡ 12 + termSize d = length-encodeTerm k d in
+        let ld : length (encodeTerm hd d) ≡ contentsAt hd + (4 + termSize d) = length-encodeTerm hd d in
         let zd : termSize d ≡ termSize u + around terms (termPath t) = termSize-plug (termPath t) u in
-        let u₀ : contentsAt + (4 + termSize t₀ + around terms (termPath t)) ≡ used = used₀ in
-        let n : length (encodeTerm k d) ≡ size = omega arith in
-        let pad : padded (length l) (encodeTerm k d) ≡ encodeTerm k d ++ zeros (length l - size) =
-        padded-zeros (length l) (length l - size) (encodeTerm k d) (ap (λ (y : ℕ). length l - y) n) in
-        let eq : relengthAll (shifted up down) (length (termPath t)) m ≡ padded (length l) (encodeTerm k d) =
-        encodeTerm-relength k up down (4 + termSize t₀) size (termPath t) u m bytes (omega arith) (omega arith)
-        ∙ ap (λ (y : List ℕ). encodeTerm k d ++ y) tail ∙ sym pad in
+        let u₀ : contentsAt hd + (4 + termSize t₀ + around terms (termPath t)) ≡ used = used₀ in
+        let n : length (encodeTerm hd d) ≡ size = omega arith in
+        let pad : padded (length l) (encodeTerm hd d) ≡ encodeTerm hd d ++ zeros (length l - size) =
+        padded-zeros (length l) (length l - size) (encodeTerm hd d) (ap (λ (y : ℕ). length l - y) n) in
+        let eq : relengthAll (shifted up down) (contentsAt hd) (length (termPath t)) m ≡ padded (length l) (encodeTerm hd d) =
+        encodeTerm-relength hd up down (4 + termSize t₀) size (termPath t) u m bytes (omega arith) (omega arith)
+        ∙ ap (λ (y : List ℕ). encodeTerm hd d ++ y) tail ∙ sym pad in
         let stands = stands-after d h goes (omega arith) in
-        let to : length (encodeTerm k d) ≡ used + up - down = n ∙ sym new in
+        let to : length (encodeTerm hd d) ≡ used + up - down = n ∙ sym new in
         record {
           after = d;
           reduces = goes;
           bytes = eq;
           size = sym to;
-          stands = subst (λ (y : List ℕ). Stands k d y (used + up - down)) (sym eq) (subst (λ (y : ℕ). Stands k d (padded (length l) (encodeTerm k d)) y) to stands);
+          stands = subst (λ (y : List ℕ). Stands hd d y (used + up - down)) (sym eq) (subst (λ (y : ℕ). Stands hd d (padded (length l) (encodeTerm hd d)) y) to stands);
         }
 
     -- a term of the same size stored over the redex
@@ -138,9 +138,9 @@ module _ {k : ℕ} {t : Term} {l : List ℕ} {used : ℕ} (h : Stands k t l used
   -- EACH RULE
 
   abbrev Made : ℕ → ℕ → List ℕ → Type 0
-  Made up down m = Performed k t (length l) (relengthAll (shifted up down) (length (termPath t)) m) (used + up - down)
+  Made up down m = Performed hd t (length l) (relengthAll (shifted up down) (contentsAt hd) (length (termPath t)) m) (used + up - down)
 
-  letOne-made : (x v : ℕ) (a : Atom) (u : Term) → redex t ≡ letOne x (plain a) u → reduce fitsWord (letOne x (plain a) u) ≡ next (substitute (only x v) u)
+  letOne-made : (x v : ℕ) (a : Atom) (u : Term) → redex t ≡ letOne x (plain a) u → reduce (okOf hd) (letOne x (plain a) u) ≡ next (substitute (only x v) u)
       → Made 0 16 (filledAt l place 16 (substitute (only x v) u) used)
   unfolding filledAt over
   letOne-made x v a u is st =
@@ -161,7 +161,7 @@ module _ {k : ℕ} {t : Term} {l : List ℕ} {used : ℕ} (h : Stands k t l used
       (letOne-gone m (removed m place 16 used) (front t₀ is) (rests terms (termPath t)) place used fits (front₀ t₀ is) x a u₁ (over-take t₀ is t₁ same) (removed-cut m place 16 used order fits))
       (tail-removed m place 16 lm (over-behind t₀ is t₁ same) order))
 
-  letAll-made : (f : Substitution) (ys : List Atom) (u : Term) → redex t ≡ letAll (tuple ys) u → reduce fitsWord (letAll (tuple ys) u) ≡ next (substitute f u)
+  letAll-made : (f : Substitution) (ys : List Atom) (u : Term) → redex t ≡ letAll (tuple ys) u → reduce (okOf hd) (letAll (tuple ys) u) ≡ next (substitute f u)
       → Made 0 (8 + 8 * length ys) (filledAt l place (8 + 8 * length ys) (substitute f u) used)
   unfolding filledAt over
   letAll-made f ys u is st =
@@ -184,7 +184,7 @@ module _ {k : ℕ} {t : Term} {l : List ℕ} {used : ℕ} (h : Stands k t l used
       (letAll-gone m (removed m place n used) (front t₀ is) (rests terms (termPath t)) place used fits (front₀ t₀ is) ys u₁ n refl (over-take t₀ is t₁ same) (removed-cut m place n used order fits))
       (tail-removed m place n lm (over-behind t₀ is t₁ same) order))
 
-  numeral-made : (x v : ℕ) (s : Simple) (u : Term) → redex t ≡ letOne x s u → simpleSize s ≡ 12 → reduce fitsWord (letOne x s u) ≡ next (letOne x (plain (num v)) u)
+  numeral-made : (x v : ℕ) (s : Simple) (u : Term) → redex t ≡ letOne x s u → simpleSize s ≡ 12 → reduce (okOf hd) (letOne x s u) ≡ next (letOne x (plain (num v)) u)
       → Made 0 4 (numeralAt l place used v)
   unfolding numeralAt
   numeral-made x v s u is zs st =
@@ -209,14 +209,14 @@ module _ {k : ℕ} {t : Term} {l : List ℕ} {used : ℕ} (h : Stands k t l used
       (drop-put m₁ (leafBytes 32 v) (place + 8) (used - 4) (omega (arith, length-leafBytes 32 v)) (omega (arith, fits-buf)) ∙ drop-put m w place (used - 4) (omega arith) (omega (arith, fits-buf))
       ∙ tail-removed l (place + 8) 4 refl refl order))
 
-  stop-made : (x : ℕ) (a : Atom) (ys : List Atom) (u : Term) → redex t ≡ rec x a ys u → reduce fitsWord (rec x a ys u) ≡ next (tuple ys)
-      → Made 0 (20 + termSize u) (stoppedAt l place k (20 + termSize u) used)
+  stop-made : (x : ℕ) (a : Atom) (ys : List Atom) (u : Term) → redex t ≡ rec x a ys u → reduce (okOf hd) (rec x a ys u) ≡ next (tuple ys)
+      → Made 0 (20 + termSize u) (stoppedAt l place (hd .k) (20 + termSize u) used)
   unfolding stoppedAt
   stop-made x a ys u is st =
       let d : ℕ = 20 + termSize u in
-      let n : ℕ = 4 + 8 * k in
+      let n : ℕ = 4 + 8 * hd .k in
       let t₀ : Term = rec x a ys u in
-      let hk : length ys ≡ k = sound₀ t₀ is .2 in
+      let hk : length ys ≡ hd .k = sound₀ t₀ is .2 in
       let z₀ : termSize t₀ ≡ 20 + 8 * length ys + termSize u = termSize-rec x a ys u in
       let z₁ : termSize (tuple ys) ≡ 8 * length ys = termSize-tuple ys in
       let order : place + n + d ≤ used = omega (arith, room₀ t₀ is) in
@@ -226,18 +226,18 @@ module _ {k : ℕ} {t : Term} {l : List ℕ} {used : ℕ} (h : Stands k t l used
       let lm : length m ≡ length l = length-put l w place (omega (arith, fits-buf)) in
       let fits : used ≤ length m = omega (arith, fits-buf) in
       made t₀ is (tuple ys) (removed m (place + n) d used) 0 d (used - d) redexRec st (omega arith) (omega arith) (omega (arith, fits-buf))
-      (rec-stopped l m (removed m (place + n) d used) (front t₀ is) (rests terms (termPath t)) place used x a ys u k d hk refl (bytes₀ t₀ is) fits-buf (front₀ t₀ is) refl
+      (rec-stopped l m (removed m (place + n) d used) (front t₀ is) (rests terms (termPath t)) place used x a ys u (hd .k) d hk refl (bytes₀ t₀ is) fits-buf (front₀ t₀ is) refl
       (removed-cut m (place + n) d used order fits))
       (tail-removed m (place + n) d lm (drop-put l w place used (omega arith) (omega (arith, fits-buf))) order)
 
-  unroll-made : (x q : ℕ) (a : Atom) (ys : List Atom) (u : Term) → redex t ≡ rec x a ys u → reduce fitsWord (rec x a ys u) ≡ next (letAll (rec x (num q) ys u) (letOne x (plain (num (suc q))) u))
-      → used + (24 + termSize u) ≤ length l → Made (24 + termSize u) 0 (unrolledAt l place k (24 + termSize u) used x (suc q))
+  unroll-made : (x q : ℕ) (a : Atom) (ys : List Atom) (u : Term) → redex t ≡ rec x a ys u → reduce (okOf hd) (rec x a ys u) ≡ next (letAll (rec x (num q) ys u) (letOne x (plain (num (suc q))) u))
+      → used + (24 + termSize u) ≤ length l → Made (24 + termSize u) 0 (unrolledAt l place (hd .k) (24 + termSize u) used x (suc q))
   unfolding unrolledAt
   unroll-made x q a ys u is st fits =
       let up : ℕ = 24 + termSize u in
-      let n : ℕ = up + 8 * k in
+      let n : ℕ = up + 8 * hd .k in
       let t₀ : Term = rec x a ys u in
-      let hk : length ys ≡ k = sound₀ t₀ is .2 in
+      let hk : length ys ≡ hd .k = sound₀ t₀ is .2 in
       let b : Term = letOne x (plain (num (suc q))) u in
       let t₁ : Term = letAll (rec x (num q) ys u) b in
       let z₀ : termSize t₀ ≡ 20 + 8 * length ys + termSize u = termSize-rec x a ys u in
@@ -246,43 +246,43 @@ module _ {k : ℕ} {t : Term} {l : List ℕ} {used : ℕ} (h : Stands k t l used
       let y₃ : termSize t₁ ≡ 8 + termSize (rec x (num q) ys u) + termSize b = termSize-letAll (rec x (num q) ys u) b in
       let order : place + n ≤ used = omega (arith, room₀ t₀ is) in
       let less : suc q - 1 ≡ q = omega arith in
-      let m : List ℕ = unrolled l place n (20 + 8 * k) used (recordHead 38 (n + up)) (leafBytes 32 (suc q - 1)) (lead 37 (up - 4) x 32 (suc q)) in
+      let m : List ℕ = unrolled l place n (20 + 8 * hd .k) used (recordHead 38 (n + up)) (leafBytes 32 (suc q - 1)) (lead 37 (up - 4) x 32 (suc q)) in
       made t₀ is t₁ m up 0 (used + up) redexRec st (omega arith) (omega arith) fits
-      (rw less (rec-unrolled l (front t₀ is) (rests terms (termPath t)) place up used x q k a ys u (bytes₀ t₀ is) (front₀ t₀ is) hk refl fits))
-      (unrolled-behind l _ _ _ place n (20 + 8 * k) used (used + up) (length-recordHead 38 (n + up)) (length-leafBytes 32 (suc q - 1)) (length-lead 37 (up - 4) x 32 (suc q)) (omega arith) order
+      (rw less (rec-unrolled l (front t₀ is) (rests terms (termPath t)) place up used x q (hd .k) a ys u (bytes₀ t₀ is) (front₀ t₀ is) hk refl fits))
+      (unrolled-behind l _ _ _ place n (20 + 8 * hd .k) used (used + up) (length-recordHead 38 (n + up)) (length-leafBytes 32 (suc q - 1)) (length-lead 37 (up - 4) x 32 (suc q)) (omega arith) order
       (omega arith) fits
       ∙ zeros-behind h (used + up) (omega arith))
 
   -- THE TERMS THAT ARE SUBSTITUTED INTO, and the numerals of a let-all's tuple
 
-  letOne-last : (x : ℕ) (a : Atom) (u : Term) → redex t ≡ letOne x (plain a) u → RangedTerm l (place + 16) k u
+  letOne-last : (x : ℕ) (a : Atom) (u : Term) → redex t ≡ letOne x (plain a) u → RangedTerm l (place + 16) (hd .k) u
   unfolding letOne-view
   letOne-last x a u is =
       let t₀ : Term = letOne x (plain a) u in
       record {
         here = term-index (letOne-view x (plain a) u (at₀ t₀ is) .last-at) (ap (λ (n : ℕ). place + (8 + n)) (size-plain a));
-        range = sound-ranged fitsWord k (adding x noVars) u (h .holds .k-high) (sound₀ t₀ is .2);
+        range = sound-ranged (okOf hd) (hd .k) (adding x noVars) u (h .holds .header .k-high) (sound₀ t₀ is .2);
       }
 
-  letAll-last : (ys : List Atom) (u : Term) → redex t ≡ letAll (tuple ys) u → RangedTerm l (place + (8 + 8 * length ys)) k u
+  letAll-last : (ys : List Atom) (u : Term) → redex t ≡ letAll (tuple ys) u → RangedTerm l (place + (8 + 8 * length ys)) (hd .k) u
   unfolding letAll-view
   letAll-last ys u is =
       let t₀ : Term = letAll (tuple ys) u in
       record {
         here = term-index (letAll-view (tuple ys) u (at₀ t₀ is) .last-at) (ap (λ (n : ℕ). place + (8 + n)) (termSize-tuple ys));
-        range = sound-ranged fitsWord k allVars u (h .holds .k-high) (sound₀ t₀ is .1);
+        range = sound-ranged (okOf hd) (hd .k) allVars u (h .holds .header .k-high) (sound₀ t₀ is .1);
       }
 
-  letAll-first : (ys : List Atom) (u : Term) → redex t ≡ letAll (tuple ys) u → TermAt l (place + 4) k (tuple (map num (map valueOf ys)))
+  letAll-first : (ys : List Atom) (u : Term) → redex t ≡ letAll (tuple ys) u → TermAt l (place + 4) (hd .k) (tuple (map num (map valueOf ys)))
   unfolding letAll-view closed closedIn
   letAll-first ys u is =
       let t₀ : Term = letAll (tuple ys) u in
-      term-same (letAll-view (tuple ys) u (at₀ t₀ is) .first-at) (ap tuple (closed-nums ys (sound-closed fitsWord k (tuple ys) (sound₀ t₀ is .0))))
+      term-same (letAll-view (tuple ys) u (at₀ t₀ is) .first-at) (ap tuple (closed-nums ys (sound-closed (okOf hd) (hd .k) (tuple ys) (sound₀ t₀ is .0))))
 
   -- ANY PLAN
 
-  performs-by : (t₀ : Term) (q : Plan) → Planned (length (termPath t)) place t₀ q → redex t ≡ t₀ → Moves (q .rule) → used + q .up ≤ length l + q .down
-      → (m : List ℕ) → Edited k q (q .rule) used l m → Performed k t (length l) (relengthAll (shifted (q .up) (q .down)) (q .levels) m) (used + q .up - q .down)
+  performs-by : (t₀ : Term) (q : Plan) → Planned (okOf hd) (length (termPath t)) place t₀ q → redex t ≡ t₀ → Moves (q .rule) → used + q .up ≤ length l + q .down
+      → (m : List ℕ) → Edited (hd .k) q (q .rule) used l m → Performed hd t (length l) (relengthAll (shifted (q .up) (q .down)) (contentsAt hd) (q .levels) m) (used + q .up - q .down)
   performs-by _ _ plannedFinished is moves fits m e = absurd moves
   performs-by _ _ plannedOver is moves fits m e = absurd moves
   performs-by _ _ (plannedBind {x} {v} {a} {u} st) is moves fits m e = subst (Made 0 16) (sym (e u (letOne-last x a u is))) (letOne-made x v a u is st)
@@ -292,27 +292,28 @@ module _ {k : ℕ} {t : Term} {l : List ℕ} {used : ℕ} (h : Stands k t l used
   performs-by _ _ (plannedStop {x} {a} {ys} {u} st) is moves fits m e = subst (Made 0 (20 + termSize u)) (sym e) (stop-made x a ys u is st)
   performs-by _ _ (plannedUnroll {x} {q} {a} {ys} {u} st) is moves fits m e = subst (Made (24 + termSize u) 0) (sym e) (unroll-made x q a ys u is st (omega arith))
 
-  planned : Planned (length (termPath t)) place (redex t) (planOf t)
+  planned : Planned (okOf hd) (length (termPath t)) place (redex t) (planOf (contentsAt hd) (okOf hd) t)
   unfolding planOf
-  planned = planned-redex (length (termPath t)) place (redex t)
+  planned = planned-redex (okOf hd) (length (termPath t)) place (redex t)
 
   -- the edit and the lengths of the plan are the reduction
-  pub performs : (q : Plan) → q ≡ planOf t → Moves (q .rule) → used + q .up ≤ length l + q .down → (m₁ m₂ : List ℕ) → Edited k q (q .rule) used l m₁
-      → m₂ ≡ relengthAll (shifted (q .up) (q .down)) (q .levels) m₁ → Performed k t (length l) m₂ (used + q .up - q .down)
-  performs q e moves fits m₁ m₂ e₁ e₂ =
-      subst (λ (y : List ℕ). Performed k t (length l) y (used + q .up - q .down)) (sym e₂)
-      (performs-by (redex t) q (subst (λ (y : Plan). Planned (length (termPath t)) place (redex t) y) (sym e) planned) refl moves fits m₁ e₁)
+  pub performs : (k contents : ℕ) → hd .k ≡ k → contentsAt hd ≡ contents → (q : Plan) → q ≡ planOf (contentsAt hd) (okOf hd) t → Moves (q .rule) → used + q .up ≤ length l + q .down → (m₁ m₂ : List ℕ) → Edited k q (q .rule) used l m₁
+      → m₂ ≡ relengthAll (shifted (q .up) (q .down)) contents (q .levels) m₁ → Performed hd t (length l) m₂ (used + q .up - q .down)
+  performs k contents is-k at-contents q e moves fits m₁ m₂ e₁ e₂ =
+      let f : ℕ → List ℕ = λ n. relengthAll (shifted (q .up) (q .down)) n (q .levels) m₁ in
+      subst (λ (y : List ℕ). Performed hd t (length l) y (used + q .up - q .down)) (sym (e₂ ∙ ap f (sym at-contents)))
+      (performs-by (redex t) q (subst (λ (y : Plan). Planned (okOf hd) (length (termPath t)) place (redex t) y) (sym e) planned) refl moves fits m₁ (subst (λ (n : ℕ). Edited n q (q .rule) used l m₁) (sym is-k) e₁))
 
   -- WHAT THE CODE ASKS
 
-  asks-by : (t₀ : Term) (q : Plan) → Planned (length (termPath t)) place t₀ q → redex t ≡ t₀ → used + q .up ≤ length l + q .down → PlanFits k q l used
+  asks-by : (t₀ : Term) (q : Plan) → Planned (okOf hd) (length (termPath t)) place t₀ q → redex t ≡ t₀ → used + q .up ≤ length l + q .down → PlanFits (contentsAt hd) (hd .k) q l used
   asks-by _ _ plannedFinished is fits = record { edit = tt; levels = omega (arith, redex-room h, fits-buf); up = omega arith; down = omega arith }
   asks-by _ _ plannedOver is fits = record { edit = tt; levels = omega (arith, redex-room h, fits-buf); up = omega arith; down = omega arith }
   asks-by _ _ (plannedBind {x} {v} {a} {u} st) is fits =
       let t₀ : Term = letOne x (plain a) u in
       let z : termSize t₀ ≡ 16 + termSize u = termSize-plain x a u in
       let room : place + (4 + termSize t₀) ≤ used = room₀ t₀ is in
-      let low : x < 17 = omega (arith, sound₀ t₀ is .0 .1, h .holds .k-high) in
+      let low : x < 17 = omega (arith, sound₀ t₀ is .0 .1, h .holds .header .k-high) in
       record { edit = ((u, letOne-last x a u is), low, omega arith); levels = omega (arith, fits-buf); up = omega arith; down = omega arith }
   asks-by _ _ (plannedEvaluate {x} {v} {s} {u} e st) is fits =
       let t₀ : Term = letOne x s u in
@@ -326,7 +327,7 @@ module _ {k : ℕ} {t : Term} {l : List ℕ} {used : ℕ} (h : Stands k t l used
       let y : termSize (tuple ys) ≡ 8 * length ys = termSize-tuple ys in
       let room : place + (4 + termSize t₀) ≤ used = room₀ t₀ is in
       record {
-        edit = ((map valueOf ys, letAll-first ys u is), (u, letAll-last ys u is), h .holds .k-high, omega arith);
+        edit = ((map valueOf ys, letAll-first ys u is), (u, letAll-last ys u is), h .holds .header .k-high, omega arith);
         levels = omega (arith, fits-buf);
         up = omega arith;
         down = omega arith;
@@ -334,23 +335,23 @@ module _ {k : ℕ} {t : Term} {l : List ℕ} {used : ℕ} (h : Stands k t l used
   asks-by _ _ (plannedStop {x} {a} {ys} {u} st) is fits =
       let t₀ : Term = rec x a ys u in
       let z : termSize t₀ ≡ 20 + 8 * length ys + termSize u = termSize-rec x a ys u in
-      let hk : length ys ≡ k = sound₀ t₀ is .2 in
+      let hk : length ys ≡ hd .k = sound₀ t₀ is .2 in
       let room : place + (4 + termSize t₀) ≤ used = room₀ t₀ is in
       record { edit = (omega arith, omega arith); levels = omega (arith, fits-buf); up = omega arith; down = omega arith }
   asks-by _ _ (plannedUnroll {x} {q} {a} {ys} {u} st) is fits =
       let t₀ : Term = rec x a ys u in
       let z : termSize t₀ ≡ 20 + 8 * length ys + termSize u = termSize-rec x a ys u in
-      let hk : length ys ≡ k = sound₀ t₀ is .2 in
+      let hk : length ys ≡ hd .k = sound₀ t₀ is .2 in
       let room : place + (4 + termSize t₀) ≤ used = room₀ t₀ is in
       let small : length l ≤ 16384 = h .short in
       record { edit = (omega arith, omega arith, omega arith, omega arith); levels = omega (arith, fits-buf); up = omega arith; down = omega arith }
 
-  plan-fits : (q : Plan) → q ≡ planOf t → used + q .up ≤ length l + q .down → PlanFits k q l used
-  plan-fits q e fits = asks-by (redex t) q (subst (λ (y : Plan). Planned (length (termPath t)) place (redex t) y) (sym e) planned) refl fits
+  plan-fits : (q : Plan) → q ≡ planOf (contentsAt hd) (okOf hd) t → used + q .up ≤ length l + q .down → PlanFits (contentsAt hd) (hd .k) q l used
+  plan-fits q e fits = asks-by (redex t) q (subst (λ (y : Plan). Planned (okOf hd) (length (termPath t)) place (redex t) y) (sym e) planned) refl fits
 
   -- BEFORE THE ROOM IS KNOWN: what comes and what goes is no longer than the record
 
-  sums-by : (t₀ : Term) (q : Plan) → Planned (length (termPath t)) place t₀ q → redex t ≡ t₀ → (q .up ≤ used) × (q .down ≤ used)
+  sums-by : (t₀ : Term) (q : Plan) → Planned (okOf hd) (length (termPath t)) place t₀ q → redex t ≡ t₀ → (q .up ≤ used) × (q .down ≤ used)
   sums-by _ _ plannedFinished is = (omega arith, omega arith)
   sums-by _ _ plannedOver is = (omega arith, omega arith)
   sums-by _ _ (plannedBind {x} {v} {a} {u} st) is =
@@ -374,8 +375,9 @@ module _ {k : ℕ} {t : Term} {l : List ℕ} {used : ℕ} (h : Stands k t l used
       let room : place + (4 + termSize (rec x a ys u)) ≤ used = room₀ (rec x a ys u) is in
       (omega arith, omega arith)
 
-  pub plan-sums : (q : Plan) → q ≡ planOf t → (q .up ≤ used) × (q .down ≤ used)
-  plan-sums q e = sums-by (redex t) q (subst (λ (y : Plan). Planned (length (termPath t)) place (redex t) y) (sym e) planned) refl
+  pub plan-sums : (q : Plan) → q ≡ planOf (contentsAt hd) (okOf hd) t → (q .up ≤ used) × (q .down ≤ used)
+  plan-sums q e = sums-by (redex t) q (subst (λ (y : Plan). Planned (okOf hd) (length (termPath t)) place (redex t) y) (sym e) planned) refl
 
-pub ready-fits : {k : ℕ} {t : Term} {l : List ℕ} {used : ℕ} (q : Plan) → Ready k t l used q → PlanFits k q l used
-ready-fits q h = plan-fits (h .stands) q (h .plans) (h .fits)
+pub ready-fits : {hd : Header} {t : Term} {l : List ℕ} {used k contents : ℕ} (q : Plan) → Ready hd t l used q → hd .k ≡ k → contentsAt hd ≡ contents → PlanFits contents k q l used
+ready-fits {hd} {t} {l} {used} {k} q h is-k at-contents =
+    subst (λ (n : ℕ). PlanFits n k q l used) at-contents (subst (λ (n : ℕ). PlanFits (contentsAt hd) n q l used) is-k (plan-fits (h .stands) q (h .plans) (h .fits)))

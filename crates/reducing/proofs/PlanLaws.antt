@@ -5,7 +5,6 @@ use mathlib.Core.Bool.{Bool, true, false, cond}
 use mathlib.Core.List.{List, map}
 use lib.ListN.{length}
 use Rattle.rules.specs.Reduction.{onNext, reduce, reduceLetOne, unrollRec, valueOf}
-use Rattle.rules.specs.Store.{fitsWord}
 use Rattle.rules.specs.Substitution.{fromStore, only, substitute}
 use Rattle.rules.specs.Syntax.{Atom, Simple, Term, letAll, letOne, next, num, over, plain, predOf, rec, succOf, tuple}
 use Rattle.record.specs.Term.{simpleSize, termSize}
@@ -21,43 +20,43 @@ use Rattle.redex.specs.Plan.{planLetOne, planRec, planRedex}
 -- THE PLAN
 
 -- The plan of a redex at p: its parts, and what it reduces to.
-pub data Planned (levels p : ℕ) : Term → Plan → Type 0 where
-  plannedFinished : {t : Term} → Planned levels p t (plan levels p Finished 0 0 0 0)
-  plannedOver : {t : Term} {x : ℕ} → Planned levels p t (plan levels p Over x 0 0 0)
-  plannedBind : {x v : ℕ} {a : Atom} {u : Term} → reduce fitsWord (letOne x (plain a) u) ≡ next (substitute (only x v) u)
-      → Planned levels p (letOne x (plain a) u) (plan levels p Bind x v 0 16)
-  plannedEvaluate : {x v : ℕ} {s : Simple} {u : Term} → simpleSize s ≡ 12 → reduce fitsWord (letOne x s u) ≡ next (letOne x (plain (num v)) u)
-      → Planned levels p (letOne x s u) (plan levels p Evaluate x v 0 4)
-  plannedLeave : {ys : List Atom} {u : Term} → reduce fitsWord (letAll (tuple ys) u) ≡ next (substitute (fromStore (map valueOf ys)) u)
-      → Planned levels p (letAll (tuple ys) u) (plan levels p Leave 0 0 0 (8 + 8 * length ys))
-  plannedStop : {x : ℕ} {a : Atom} {ys : List Atom} {u : Term} → reduce fitsWord (rec x a ys u) ≡ next (tuple ys)
-      → Planned levels p (rec x a ys u) (plan levels p Stop x 0 0 (20 + termSize u))
+pub data Planned (ok : ℕ → Bool) (levels p : ℕ) : Term → Plan → Type 0 where
+  plannedFinished : {t : Term} → Planned ok levels p t (plan levels p Finished 0 0 0 0)
+  plannedOver : {t : Term} {x : ℕ} → Planned ok levels p t (plan levels p Over x 0 0 0)
+  plannedBind : {x v : ℕ} {a : Atom} {u : Term} → reduce ok (letOne x (plain a) u) ≡ next (substitute (only x v) u)
+      → Planned ok levels p (letOne x (plain a) u) (plan levels p Bind x v 0 16)
+  plannedEvaluate : {x v : ℕ} {s : Simple} {u : Term} → simpleSize s ≡ 12 → reduce ok (letOne x s u) ≡ next (letOne x (plain (num v)) u)
+      → Planned ok levels p (letOne x s u) (plan levels p Evaluate x v 0 4)
+  plannedLeave : {ys : List Atom} {u : Term} → reduce ok (letAll (tuple ys) u) ≡ next (substitute (fromStore (map valueOf ys)) u)
+      → Planned ok levels p (letAll (tuple ys) u) (plan levels p Leave 0 0 0 (8 + 8 * length ys))
+  plannedStop : {x : ℕ} {a : Atom} {ys : List Atom} {u : Term} → reduce ok (rec x a ys u) ≡ next (tuple ys)
+      → Planned ok levels p (rec x a ys u) (plan levels p Stop x 0 0 (20 + termSize u))
   plannedUnroll : {x q : ℕ} {a : Atom} {ys : List Atom} {u : Term}
-      → reduce fitsWord (rec x a ys u) ≡ next (letAll (rec x (num q) ys u) (letOne x (plain (num (suc q))) u))
-      → Planned levels p (rec x a ys u) (plan levels p Unroll x (suc q) (24 + termSize u) 0)
+      → reduce ok (rec x a ys u) ≡ next (letAll (rec x (num q) ys u) (letOne x (plain (num (suc q))) u))
+      → Planned ok levels p (rec x a ys u) (plan levels p Unroll x (suc q) (24 + termSize u) 0)
 
-module _ (levels p : ℕ) where
-  planned-raise : (x : ℕ) (a : Atom) (t : Term) (b : Bool) → fitsWord (suc (valueOf a)) ≡ b → Planned levels p (letOne x (succOf a) t) (planRaise levels p x (suc (valueOf a)) 4 b)
+module _ (ok : ℕ → Bool) (levels p : ℕ) where
+  planned-raise : (x : ℕ) (a : Atom) (t : Term) (b : Bool) → ok (suc (valueOf a)) ≡ b → Planned ok levels p (letOne x (succOf a) t) (planRaise levels p x (suc (valueOf a)) 4 b)
   unfolding planRaise reduce reduceLetOne
   planned-raise x a t true e = plannedEvaluate (size-succ a) (ap (λ (c : Bool). cond c (next (letOne x (plain (num (suc (valueOf a)))) t)) over) e)
   planned-raise x a t false e = plannedOver
 
-  planned-letOne : (x : ℕ) (s : Simple) (t : Term) → Planned levels p (letOne x s t) (planLetOne levels p x s)
+  planned-letOne : (x : ℕ) (s : Simple) (t : Term) → Planned ok levels p (letOne x s t) (planLetOne ok levels p x s)
   unfolding planLetOne reduce reduceLetOne
   planned-letOne x (plain a) t = plannedBind refl
-  planned-letOne x (succOf a) t = planned-raise x a t (fitsWord (suc (valueOf a))) refl
+  planned-letOne x (succOf a) t = planned-raise x a t (ok (suc (valueOf a))) refl
   planned-letOne x (predOf a) t = plannedEvaluate (size-pred a) refl
 
-  planned-rec : (x : ℕ) (a : Atom) (ys : List Atom) (t : Term) (v : ℕ) → valueOf a ≡ v → Planned levels p (rec x a ys t) (planRec levels p x (termSize t) v)
+  planned-rec : (x : ℕ) (a : Atom) (ys : List Atom) (t : Term) (v : ℕ) → valueOf a ≡ v → Planned ok levels p (rec x a ys t) (planRec levels p x (termSize t) v)
   unfolding planRec reduce unrollRec
   planned-rec x a ys t zero e = plannedStop (ap (λ (n : ℕ). next (unrollRec x n ys t)) e)
   planned-rec x a ys t (suc q) e = plannedUnroll (ap (λ (n : ℕ). next (unrollRec x n ys t)) e)
 
-  pub planned-redex : (t : Term) → Planned levels p t (planRedex levels p t)
+  pub planned-redex : (t : Term) → Planned ok levels p t (planRedex ok levels p t)
   unfolding planRedex
   planned-redex (tuple ys) = plannedFinished
   planned-redex (letOne x s t) = planned-letOne x s t
-  planned-redex (letAll (tuple ys) u) = plannedLeave (reduce-letAll-tuple fitsWord ys u)
+  planned-redex (letAll (tuple ys) u) = plannedLeave (reduce-letAll-tuple ok ys u)
   planned-redex (letAll (letOne x s t) u) = plannedFinished
   planned-redex (letAll (letAll s t) u) = plannedFinished
   planned-redex (letAll (rec x a ys t) u) = plannedFinished
@@ -69,7 +68,7 @@ onNext-next : (p : List Term) (u : Term) → onNext (plug terms p) (next u) ≡ 
 unfolding onNext
 onNext-next p u = refl
 
-pub redex-reduces : (t t₀ u : Term) → redex t ≡ t₀ → Redex t₀ → reduce fitsWord t₀ ≡ next u → reduce fitsWord t ≡ next (plug terms (termPath t) u)
-redex-reduces t t₀ u is r e =
-    ap (reduce fitsWord) (sym (plug-redex t) ∙ ap (plug terms (termPath t)) is) ∙ reduce-plug fitsWord (termPath t) t₀ (redex-kind t₀ r)
+pub redex-reduces : (ok : ℕ → Bool) (t t₀ u : Term) → redex t ≡ t₀ → Redex t₀ → reduce ok t₀ ≡ next u → reduce ok t ≡ next (plug terms (termPath t) u)
+redex-reduces ok t t₀ u is r e =
+    ap (reduce ok) (sym (plug-redex t) ∙ ap (plug terms (termPath t)) is) ∙ reduce-plug ok (termPath t) t₀ (redex-kind t₀ r)
     ∙ ap (onNext (plug terms (termPath t))) e ∙ onNext-next (termPath t) u

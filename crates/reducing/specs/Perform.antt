@@ -6,11 +6,11 @@ use lib.ListN.{length}
 use Rattle.buffer.specs.LittleEndian.{le, val}
 use Rattle.buffer.specs.Slice.{part, put}
 use Rattle.rules.specs.Reduction.{reduce}
-use Rattle.rules.specs.Store.{fitsWord}
 use Rattle.rules.specs.Substitution.{fromStore, only, substitute}
 use Rattle.rules.specs.Syntax.{Term, next, num, tuple}
 use Rattle.record.specs.Answers.{padded}
-use Rattle.record.specs.Header.{contentsAt, encodeTerm}
+use Rattle.record.specs.declared.Header.{Header}
+use Rattle.record.specs.Header.{contentsAt, encodeTerm, okOf}
 use Rattle.record.specs.Term.{encodeTermRecord}
 use Rattle.place.specs.Edit.{lead, leafBytes, removed, unrolled}
 use Rattle.place.specs.Heads.{recordHead}
@@ -68,26 +68,26 @@ EditFits k p Stop l used = (16 ≤ p .down) × (p .at + (4 + 8 * k) + p .down �
 EditFits k p Unroll l used = (24 ≤ p .up) × (p .at + (p .up + 8 * k) ≤ used) × (used + p .up ≤ length l) × (0 < p .value)
 
 -- All that the code asks of a plan.
-pub record PlanFits (k : ℕ) (p : Plan) (l : List ℕ) (used : ℕ) : Type 0 where
+pub record PlanFits (contents k : ℕ) (p : Plan) (l : List ℕ) (used : ℕ) : Type 0 where
   pub edit : EditFits k p (p .rule) l used
-  pub levels : contentsAt + 4 * p .levels ≤ length l
+  pub levels : contents + 4 * p .levels ≤ length l
   pub up : p .up ≤ 16384
   pub down : p .down ≤ used + p .up
 
 -- THE REDUCTION
 
 -- What stands before a reduction: the term t, its plan, which makes one, and room for the next state.
-pub record Ready (k : ℕ) (t : Term) (buf : List ℕ) (used : ℕ) (p : Plan) : Type 0 where
-  pub stands : Stands k t buf used
-  pub plans : p ≡ planOf t
+pub record Ready (h : Header) (t : Term) (buf : List ℕ) (used : ℕ) (p : Plan) : Type 0 where
+  pub stands : Stands h t buf used
+  pub plans : p ≡ planOf (contentsAt h) (okOf h) t
   pub moves : Moves (p .rule)
   pub fits : used + p .up ≤ length buf + p .down
 
 -- From the term t in a buffer of `room` bytes: the rules' next term stands in the buffer, with zeros behind it, and `used` is
 -- its length.
-pub record Performed (k : ℕ) (t : Term) (room : ℕ) (buf : List ℕ) (used : ℕ) : Type 0 where
+pub record Performed (h : Header) (t : Term) (room : ℕ) (buf : List ℕ) (used : ℕ) : Type 0 where
   pub after : Term
-  pub reduces : reduce fitsWord t ≡ next after
-  pub bytes : buf ≡ padded room (encodeTerm k after)
-  pub size : used ≡ length (encodeTerm k after)
-  pub stands : Stands k after buf used
+  pub reduces : reduce (okOf h) t ≡ next after
+  pub bytes : buf ≡ padded room (encodeTerm h after)
+  pub size : used ≡ length (encodeTerm h after)
+  pub stands : Stands h after buf used

@@ -4,13 +4,14 @@ use mathlib.Core.Path.{_≡_}
 use mathlib.Core.List.{List}
 use lib.ListN.{length}
 use Rattle.record.specs.Answers.{padded}
+use Rattle.record.specs.declared.Header.{Header}
 use Rattle.record.specs.Header.{encodeTerm}
 use Rattle.record.specs.Holding.{TermIn}
 use Rattle.rules.specs.FreeVariables.{noVars}
 use Rattle.rules.specs.Syntax.{Term}
 
 -- The record of the term is the first `used` bytes of the buffer, and zeros are behind it.
-pub record Stands (k : ℕ) (t : Term) (buf : List ℕ) (used : ℕ) : Type 0 where
-  pub holds : TermIn noVars k t buf used
+pub record Stands (h : Header) (t : Term) (buf : List ℕ) (used : ℕ) : Type 0 where
+  pub holds : TermIn noVars h t buf used
   pub short : length buf ≤ 16384
-  pub clear : buf ≡ padded (length buf) (encodeTerm k t)
+  pub clear : buf ≡ padded (length buf) (encodeTerm h t)

@@ -8,6 +8,8 @@ ghost use Rattle.buffer.specs.LittleEndian.{val};
 ghost use Rattle.buffer.specs.Slice.{part};
 ghost use Rattle.rules.specs.Substitution.{fromStore, only as onlyOf, substitute};
 ghost use Rattle.rules.specs.Syntax.{Term, num, tuple};
+ghost use Rattle.record.specs.declared.Header.{Header};
+ghost use Rattle.record.specs.Header.{contentsAt, okOf};
 ghost use Rattle.place.specs.TermView.{TermAt};
 ghost use Rattle.filling.specs.Ranged.{RangedTerm};
 ghost use Rattle.redex.specs.Plan.{planOf};
@@ -103,11 +105,11 @@ fn edit(buf: &mut [u8], used: usize, k: u32, p: Plan)
 }
 
 // Makes the reduction of a plan that the look gave for the term as it is; the result is the record's new length.
-pub fn perform(buf: &mut [u8], used: usize, k: u32, p: Plan) -> usize
-    requires { ⌜ ((t : Term) × Ready k t (now buf) used p) ⌝ }
-    ensures { λ r. ⌜ ((t : Term) → Stands k t (now (buf .entry)) used → p ≡ planOf t → Performed k t (length (now (buf .entry))) (now (buf .exit)) r) ⌝ }
+pub fn perform(buf: &mut [u8], used: usize, k: u32, p: Plan, contents: usize) -> usize
+    requires { ⌜ ((h : Header) × ((t : Term) × (Ready h t (now buf) used p × ((h .k ≡ k) × (contentsAt h ≡ contents))))) ⌝ }
+    ensures { λ r. ⌜ ((h : Header) (t : Term) → Stands h t (now (buf .entry)) used → p ≡ planOf (contentsAt h) (okOf h) t → h .k ≡ k → contentsAt h ≡ contents → Performed h t (length (now (buf .entry))) (now (buf .exit)) r) ⌝ }
 {
     edit(buf, used, k, p);
-    relength(buf, p.levels, p.up, p.down);
+    relength(buf, contents, p.levels, p.up, p.down);
     used + p.up - p.down
 }

@@ -12,6 +12,8 @@ use Rattle.buffer.specs.LittleEndian.{Bytes, val}
 use Rattle.buffer.specs.Slice.{part}
 use Rattle.buffer.proofs.LittleEndianLaws.{bytes-take}
 use Rattle.record.specs.Answers.{Checked, checkProgram, checkProgramRows, checkedBy}
+use Rattle.record.specs.declared.Header.{Header}
+use Rattle.record.specs.Header.{program}
 use Rattle.record.specs.Holding.{ProgramIn}
 use Rattle.record.specs.Rows.{NoRow, Row, badBlock, badBuffer, badHeader, badK, blockOutside, firstRow, programRows, row}
 use Rattle.record.proofs.AnswerLaws.{check-program-number, check-program-refused, checked-accepted, checked-refused}
@@ -71,7 +73,7 @@ module _ (input : List ℕ) where
     pub rows-behind : (more : List Row) → NoRow (checkProgramRows (recordOf input) (saidLength input)) → firstRow (inputRows input more) ≡ firstRow (row6 input ∷ more)
     rows-behind more r =
         rows-whole more w
-        ∙ first-skips 2 (badHeader 7 (recordOf input) (saidLength input)) _ (r .1 .0)
+        ∙ first-skips 2 (badHeader program (recordOf input) (saidLength input)) _ (r .1 .0)
         ∙ first-skips 3 (badK (recordOf input) (saidLength input)) _ (r .1 .1 .0)
         ∙ first-skips 4 (badBlock (recordOf input) (saidLength input)) _ (r .1 .1 .1 .0)
         ∙ first-skips 5 (blockOutside (recordOf input) (saidLength input)) _ (r .1 .1 .1 .1 .0)
@@ -80,7 +82,9 @@ module _ (input : List ℕ) where
 
 -- Whatever the input, the checker accepts at most 16 values.
 pub checked-k : (a : List ℕ) (s : ℕ) → Bytes a → (c : Checked) → c ≡ checkProgram (take s a) s → c .number ≡ 0 → c .k ≤ 16
-checked-k a s b c e z = program-accepted (take s a) s (c .number) (c .k) (sym e) z (bytes-take s a b) .1 .1 .k-high
+checked-k a s b c e z =
+    let p = program-accepted (take s a) s (c .number) (c .k) (sym e) z (bytes-take s a b) .1 in
+    omega (arith, p .2, p .3 .header .k-high)
 
 -- A refusal says nothing of what is accepted.
 pub not-accepted : {P : Type 0} (n : ℕ) (c : Checked) → c ≡ record { number = n; k = 0 } → (n ≡ 0 → ⊥) → c .number ≡ 0 → P
@@ -134,13 +138,13 @@ module _ (input a : List ℕ) (total : ℕ) (h : RecordRead input a total) where
       no-row : NoRow (checkProgramRows (recordOf input) (saidLength input))
       no-row = first-none (checkProgramRows (recordOf input) (saidLength input)) refl (sym checked-number ∙ z)
 
-      pub held : (P : Block) × ProgramIn (c .k) P (recordOf input) (saidLength input)
+      held : (hd : Header) × (P : Block) × (hd .k ≡ c .k) × ProgramIn hd P (recordOf input) (saidLength input)
       held =
           check-program (c .k) (recordOf input) (saidLength input) (bytes-take (saidLength input) input (h .bytes)) .0
           (sym e ∙ ap (λ (n : ℕ). record { number = n; k = c .k }) z) .1
 
       pub held-k : kOfInput input ≡ c .k
-      held-k = program-k (held .1)
+      held-k = program-k (held .3) ∙ held .2
 
       pub rest-refuses : (d : Checked) (s : ℕ) → d ≡ record { number = 6; k = 0 } → s ≡ saidLength input → (total - s ≡ 4 * c .k → ⊥) → InputChecked input d
       rest-refuses d s f q n =

@@ -12,10 +12,11 @@ use Rattle.buffer.specs.LittleEndian.{val}
 use Rattle.buffer.specs.Slice.{part, put, zeros}
 use Rattle.buffer.proofs.SliceLaws.{length-zeros}
 use Rattle.record.specs.Answers.{Checked, Wrote, checkProgramRows, padded}
+use Rattle.record.specs.Header.{program}
 use Rattle.record.specs.Rows.{NoRow, badBlock, badBuffer, badHeader, badK, blockOutside, firstRow, row, tooLong}
 use Rattle.record.proofs.AnswerLaws.{checked-accepted, checked-number, wrote-accepted}
 use Rattle.record.proofs.PaddedLaws.{padded-zeros}
-use Rattle.record.proofs.HeldLaws.{good-header, good-k, not-long}
+use Rattle.record.proofs.HeldLaws.{good-eight, good-header, good-k, not-long}
 use Rattle.record.proofs.RowLaws.{first-before, first-none, first-skips, or-intro}
 use Rattle.reducer.specs.RunReducer.{runReducer}
 use Rattle.run.specs.RunAnswer.{RunAnswer}
@@ -116,7 +117,7 @@ module _ {input a b behind : List ℕ} {total : ℕ} (h : Reads input a b behind
       → firstRow (translateRows (recordOf input) (saidLength input) out) ≡ firstRow (row 10 (tooShort out (translated (recordOf input) (saidLength input))) ∷ [])
   translation-rows out l =
       first-skips 1 (badBuffer (recordOf input) (saidLength input) || tooLong out) _ (or-intro (p .rows .0) (not-long out l))
-      ∙ first-skips 2 (badHeader 7 (recordOf input) (saidLength input)) _ (p .rows .1 .0)
+      ∙ first-skips 2 (badHeader program (recordOf input) (saidLength input)) _ (p .rows .1 .0)
       ∙ first-skips 3 (badK (recordOf input) (saidLength input)) _ (p .rows .1 .1 .0)
       ∙ first-skips 4 (badBlock (recordOf input) (saidLength input)) _ (p .rows .1 .1 .1 .0)
       ∙ first-skips 5 (blockOutside (recordOf input) (saidLength input)) _ (p .rows .1 .1 .1 .1 .0)
@@ -170,7 +171,7 @@ module _ {input a b behind : List ℕ} {total : ℕ} (h : Reads input a b behind
 
   -- the values
   behind-is : behind ≡ take 65 (drop (saidLength input) input)
-  behind-is = h .values (p .whole) (omega (arith, good-header 7 (recordOf input) (saidLength input) (p .rows .1 .0) .eight))
+  behind-is = h .values (p .whole) (omega (arith, good-eight (good-header program (recordOf input) (saidLength input) (p .rows .1 .0))))
 
   pub values-there : 4 * k ≤ length behind
   values-there =

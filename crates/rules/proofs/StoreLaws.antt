@@ -2,31 +2,28 @@
 use Prim.Native.Nat.{_-_, _<_, suc, zero, ℕ, _≤_}
 use mathlib.Core.Path.{ap, refl, sym, _∙_, _≡_}
 use mathlib.Core.Logic.{_↔_}
-use mathlib.Core.Bool.{Bool, true}
+use mathlib.Core.Bool.{Bool, false, true}
 use mathlib.Core.List.{List}
-use borrow.Author.Tests.{lt-ltb, ltb-true}
+use borrow.Author.Tests.{le-leb, leb-false, leb-true, lt-leb}
 use lib.ListN.{getD, set}
 use native.Mathlib.Omega.{arith}
-use Rattle.rules.specs.Store.{Limit, fitsWord, lookup, minusOne, noLimit, update, wordLimit}
+use Rattle.rules.specs.Store.{Limit, lookup, minusOne, noLimit, upTo, update}
 
--- THE LIMITS: 01's, and none
+-- THE LIMITS: a largest value, and none
 
-pub fitsWord-below : (n : ℕ) → fitsWord n ≡ true → n < wordLimit
-unfolding fitsWord
-fitsWord-below n e = ltb-true n wordLimit e
+-- what is not above the largest value passes, and nothing else does
+pub upTo-iff : (m n : ℕ) → (upTo m n ≡ true) ↔ (n ≤ m)
+unfolding upTo
+upTo-iff m n = (leb-true n m, le-leb n m)
 
-pub below-fitsWord : (n : ℕ) → n < wordLimit → fitsWord n ≡ true
-unfolding fitsWord
-below-fitsWord n h = lt-ltb n wordLimit h
+pub upTo-above : (m n : ℕ) → (upTo m n ≡ false) ↔ (m < n)
+unfolding upTo
+upTo-above m n = (leb-false n m, lt-leb n m)
 
--- values run from 0 to 4,294,967,295
-pub fitsWord-iff : (n : ℕ) → (fitsWord n ≡ true) ↔ (n ≤ 4294967295)
-fitsWord-iff n = ((λ e. omega (arith, fitsWord-below n e)), (λ h. below-fitsWord n (omega arith)))
-
-pub word-limit : Limit fitsWord
-word-limit = record {
-  zeroPasses = below-fitsWord 0 (omega arith);
-  belowPasses = λ n e. below-fitsWord n (omega (arith, fitsWord-below (suc n) e));
+pub upTo-limit : (m : ℕ) → Limit (upTo m)
+upTo-limit m = record {
+  zeroPasses = upTo-iff m 0 .1 (omega arith);
+  belowPasses = λ n e. upTo-iff m n .1 (omega (arith, upTo-iff m (suc n) .0 e));
 }
 
 pub no-limit : Limit noLimit

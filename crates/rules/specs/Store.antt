@@ -3,16 +3,13 @@ use Prim.Native.Nat.{pred, suc, zero, ℕ}
 use mathlib.Core.Path.{_≡_}
 use mathlib.Core.Bool.{Bool, true}
 use mathlib.Core.List.{List}
-use lib.Dec.{ltb}
+use lib.Dec.{leb}
 use lib.ListN.{getD, set}
 
--- Every value is below this: values run from 0 to 4,294,967,295.
-abbrev pub wordLimit : ℕ
-wordLimit = 4294967296
-
--- The test for a value that is not too large. `step` and `reduce` take such a test; this is 01's.
-unfoldable pub fitsWord : ℕ → Bool
-fitsWord n = ltb n wordLimit
+-- The test for a value that is not too large: it passes up to a largest one. `step` and `reduce` take such a test; which value
+-- is the largest, a record's header says (01 "Records": values run from 0 to 4,294,967,295).
+unfoldable pub upTo : ℕ → ℕ → Bool
+upTo largest n = leb n largest
 
 -- The test that every value passes: with it the rules are the paper's own.
 abbrev pub noLimit : ℕ → Bool

@@ -5,23 +5,24 @@ use mathlib.Core.Logic.{Iff·trans}
 use mathlib.Core.List.{List, [], _∷_}
 use lib.ListN.{length}
 use native.Mathlib.Omega.{arith}
+use Rattle.record.specs.declared.Header.{Header}
+use Rattle.record.specs.Header.{okOf}
 use Rattle.record.specs.Holding.{ProgramIn}
 use Rattle.record.specs.Rows.{badStore, firstRow, kOf, row}
 use Rattle.record.specs.Term.{same}
 use Rattle.rules.specs.Run.{Ran}
 use Rattle.rules.specs.Sound.{SmallValues, SoundConfig}
 use Rattle.rules.specs.Step.{step}
-use Rattle.rules.specs.Store.{fitsWord}
 use Rattle.rules.specs.Syntax.{Block, Config}
 use Rattle.run.specs.RunAnswer.{refusal, roomFor}
+use Rattle.record.proofs.HeaderLaws.{ok-limit}
 use Rattle.record.proofs.PaddedLaws.{length-padded}
 use Rattle.record.proofs.HeldLaws.{good-buffer, good-store, store-good}
-use Rattle.record.proofs.HoldingLaws.{padded-program, program-is, program-k, program-passes, program-size, program-used}
+use Rattle.record.proofs.HoldingLaws.{padded-program, program-header, program-is, program-k, program-passes, program-size, program-used}
 use Rattle.record.proofs.RowLaws.{first-none, none-first}
 use Rattle.rules.proofs.FinishedLaws.{step-finished}
 use Rattle.rules.proofs.RunLaws.{run-reached}
 use Rattle.rules.proofs.SoundConfigLaws.{sound-steps}
-use Rattle.rules.proofs.StoreLaws.{word-limit}
 use Rattle.run.proofs.RanLaws.{run-answers, run-stays}
 use Rattle.stepping.specs.State.{configBytes}
 use Rattle.stepper.specs.RunStepper.{runStepper, steppedTo, stepperBy, stepperRows, steps}
@@ -51,65 +52,65 @@ stepper-refused buf used store budget h = refused-by (firstRow (stepperRows buf 
 
 -- WHAT ITS ROWS LET THROUGH, of a buffer that holds a program's record
 
-pub record StepperTakes (k : ℕ) (buf : List ℕ) (used n : ℕ) (store : List ℕ) : Type 0 where
+pub record StepperTakes (hd : Header) (buf : List ℕ) (used n : ℕ) (store : List ℕ) : Type 0 where
   pub low : length buf ≤ 16384
   -- the used length is the record's own
   pub same : n ≡ used
-  pub values : length store ≡ k
+  pub values : length store ≡ hd .k
 
-pub stepper-takes : {k : ℕ} {P : Block} {buf : List ℕ} {used : ℕ} → ProgramIn k P buf used → (n : ℕ) (store : List ℕ)
-    → firstRow (stepperRows buf n store) ≡ 0 → StepperTakes k buf used n store
-stepper-takes {k} {P} {buf} {used} h n store e =
+pub stepper-takes : {hd : Header} {P : Block} {buf : List ℕ} {used : ℕ} → ProgramIn hd P buf used → (n : ℕ) (store : List ℕ)
+    → firstRow (stepperRows buf n store) ≡ 0 → StepperTakes hd buf used n store
+stepper-takes {hd} {P} {buf} {used} h n store e =
     let r = first-none (stepperRows buf n store) refl e in
     let low = good-buffer buf n (r .0) .low in
     let same : n ≡ used = program-used h n low (r .1 .0) in
     record { low = low; same = same; values = good-store buf n store (r .1 .1 .1 .1 .1 .0) ∙ ap (kOf buf) same ∙ program-k h }
 
-pub stepper-passes : {k : ℕ} {P : Block} {buf : List ℕ} {used : ℕ} → ProgramIn k P buf used → length buf ≤ 16384 → (store : List ℕ) → length store ≡ k
+pub stepper-passes : {hd : Header} {P : Block} {buf : List ℕ} {used : ℕ} → ProgramIn hd P buf used → length buf ≤ 16384 → (store : List ℕ) → length store ≡ hd .k
     → firstRow (stepperRows buf used store) ≡ 0
-stepper-passes {k} {P} {buf} {used} h l store e =
+stepper-passes {hd} {P} {buf} {used} h l store e =
     none-first (stepperRows buf used store)
     (program-passes h l (row 6 (badStore buf used store) ∷ []) (store-good buf used store (e ∙ sym (program-k h)), tt))
 
 -- AN ACCEPTED RUN is the rules' run of the configuration that is lent
 
-module _ {k : ℕ} {P : Block} {buf : List ℕ} {used : ℕ} (h : ProgramIn k P buf used) (l : length buf ≤ 16384)
-    (store : List ℕ) (e : length store ≡ k) (hs : SmallValues fitsWord store) (budget : ℕ) where
+module _ {hd : Header} {P : Block} {buf : List ℕ} {used : ℕ} (h : ProgramIn hd P buf used) (l : length buf ≤ 16384)
+    (store : List ℕ) (e : length store ≡ hd .k) (hs : SmallValues (okOf hd) store) (budget : ℕ) where
   abbrev c₀ : Config
   c₀ = record { block = P; store = store }
 
   abbrev ran : Ran Config
-  ran = steps k (length buf) budget c₀
+  ran = steps hd (length buf) budget c₀
 
-  pub stepper-is : runStepper buf used store budget ≡ steppedTo k (length buf) budget ran
+  pub stepper-is : runStepper buf used store budget ≡ steppedTo hd (length buf) budget ran
   unfolding runStepper stepperBy
   stepper-is =
       ap (λ (m : ℕ). stepperBy m buf used store budget) (stepper-passes h l store e)
-      ∙ rw (program-k h, program-is h l) refl
+      ∙ rw (program-header h, program-is h l) refl
 
-  sound-left : SoundConfig fitsWord k (ran .state)
+  sound-left : SoundConfig (okOf hd) (hd .k) (ran .state)
   sound-left =
-      sound-steps fitsWord word-limit k (ran .count) c₀ (ran .state)
+      sound-steps (okOf hd) (ok-limit hd) (hd .k) (ran .count) c₀ (ran .state)
       (record { variables = record { block = h .variables; size = e }; literals = h .literals; values = hs })
-      (run-reached (step fitsWord) (roomFor (configBytes k) (length buf)) budget c₀)
+      (run-reached (step (okOf hd)) (roomFor (configBytes hd) (length buf)) budget c₀)
 
-  roomy : length (configBytes k (ran .state)) ≤ length buf
-  roomy = run-stays (step fitsWord) (configBytes k) (length buf) c₀ budget (omega (arith, program-size h, h .within))
+  roomy : length (configBytes hd (ran .state)) ≤ length buf
+  roomy = run-stays (step (okOf hd)) (configBytes hd) (length buf) c₀ budget (omega (arith, program-size h, h .within))
 
-  stepped : StepperRan k c₀ (length buf) budget (steppedTo k (length buf) budget ran)
+  stepped : StepperRan hd c₀ (length buf) budget (steppedTo hd (length buf) budget ran)
   unfolding steppedTo
   stepped =
-      let answers = run-answers (step fitsWord) (configBytes k) (length buf) c₀ budget in
+      let answers = run-answers (step (okOf hd)) (configBytes hd) (length buf) c₀ budget in
       record {
         c = ran .state;
         ran = answers;
         bytes = refl;
         values = refl;
-        finishes = Iff·trans (answers .finishes) (step-finished fitsWord (ran .state));
-        again = padded-program k (ran .state .block) (length buf) (h .k-low) (h .k-high) (sound-left .variables .block) (sound-left .literals);
+        finishes = Iff·trans (answers .finishes) (step-finished (okOf hd) (ran .state));
+        again = padded-program hd (ran .state .block) (length buf) (h .header) (sound-left .variables .block) (sound-left .literals);
         sound = sound-left;
-        sameRoom = length-padded (length buf) (configBytes k (ran .state)) roomy;
+        sameRoom = length-padded (length buf) (configBytes hd (ran .state)) roomy;
       }
 
-  pub stepper-ran : StepperRan k c₀ (length buf) budget (runStepper buf used store budget)
-  stepper-ran = subst (StepperRan k c₀ (length buf) budget) (sym stepper-is) stepped
+  pub stepper-ran : StepperRan hd c₀ (length buf) budget (runStepper buf used store budget)
+  stepper-ran = subst (StepperRan hd c₀ (length buf) budget) (sym stepper-is) stepped

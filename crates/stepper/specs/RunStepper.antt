@@ -3,10 +3,11 @@ use Prim.Native.Nat.{suc, zero, ℕ}
 use mathlib.Core.List.{List, [], _∷_}
 use lib.ListN.{length}
 use Rattle.record.specs.Answers.{padded}
-use Rattle.record.specs.Rows.{Row, badBuffer, badStore, firstRow, kOf, programOf, programRows, row}
+use Rattle.record.specs.declared.Header.{Header}
+use Rattle.record.specs.Header.{okOf}
+use Rattle.record.specs.Rows.{Row, badBuffer, badStore, firstRow, headerOf, programOf, programRows, row}
 use Rattle.rules.specs.Run.{Ran}
 use Rattle.rules.specs.Step.{step}
-use Rattle.rules.specs.Store.{fitsWord}
 use Rattle.rules.specs.Syntax.{Config}
 use Rattle.run.specs.RunAnswer.{RunAnswer, accepted, refusal, runIn}
 use Rattle.stepping.specs.State.{configBytes}
@@ -22,14 +23,14 @@ abbrev pub configOf : List ℕ → ℕ → List ℕ → Config
 configOf buf used store = record { block = programOf buf used; store = store }
 
 -- The rules' run from a configuration, in a buffer of `room` bytes.
-abbrev pub steps : ℕ → ℕ → ℕ → Config → Ran Config
-steps k room budget c = runIn (step fitsWord) (configBytes k) room budget c
+abbrev pub steps : Header → ℕ → ℕ → Config → Ran Config
+steps h room budget c = runIn (step (okOf h)) (configBytes h) room budget c
 
 -- What a run leaves: the record of the configuration left, zeros behind it, and its store.
-unfoldable pub steppedTo : ℕ → ℕ → ℕ → Ran Config → StepperCall
-steppedTo k room budget r = record {
-  answer = accepted budget r (length (configBytes k (r .state)));
-  buf = padded room (configBytes k (r .state));
+unfoldable pub steppedTo : Header → ℕ → ℕ → Ran Config → StepperCall
+steppedTo h room budget r = record {
+  answer = accepted budget r (length (configBytes h (r .state)));
+  buf = padded room (configBytes h (r .state));
   store = r .state .store;
 }
 
@@ -40,7 +41,7 @@ stepperRows buf used store = row 1 (badBuffer buf used) ∷ programRows buf used
 -- By the number of the first row that applies, 0 where none does: the run, or a refusal and buffer and store as they came.
 unfoldable pub stepperBy : ℕ → List ℕ → ℕ → List ℕ → ℕ → StepperCall
 stepperBy zero buf used store budget =
-    steppedTo (kOf buf used) (length buf) budget (steps (kOf buf used) (length buf) budget (configOf buf used store))
+    steppedTo (headerOf buf used) (length buf) budget (steps (headerOf buf used) (length buf) budget (configOf buf used store))
 stepperBy (suc n) buf used store budget = record { answer = refusal (suc n); buf = buf; store = store }
 
 -- THE CALL: buffer, used length, store, budget.

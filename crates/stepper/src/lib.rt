@@ -1,6 +1,5 @@
 // The stepper's run: rows 1 to 6, and then one step after another in the lent buffer and store.
 ghost use mathlib.Core.Path.{_≡_};
-ghost use Prim.Native.Nat.{ℕ};
 ghost use lib.ListN.{length};
 ghost use Rattle.rules.specs.Syntax.{Block};
 ghost use Rattle.run.specs.Represents.{asRunAnswer};
@@ -9,27 +8,36 @@ ghost use Rattle.stepper.specs.Running.{Accepted, Gives, acceptedRun};
 use command::look;
 use plan::outcome_of;
 use program_checker::check_program;
+use record::Header;
 use run::RunEnd;
 use run::Tally;
 use stepping::perform;
 
 // The run of what the rows let through. The bytes behind the record are made zero first, and every step leaves them so; room is
 // looked for in the whole lent buffer.
-fn run_accepted(buf: &mut [u8], used: usize, store: &mut [u32], budget: u32) -> RunEnd
-    requires { ⌜ ((k : ℕ) × ((P : Block) × Accepted k P (now buf) used (now store))) ⌝ }
-    ensures { λ r. ⌜ ((k : ℕ) (P : Block) → Accepted k P (now (buf .entry)) used (now (store .entry)) → Gives r (now (buf .exit)) (now (store .exit)) (acceptedRun k P (length (now (buf .entry))) (now (store .entry)) budget)) ⌝ }
+pub fn run_accepted(
+    buf: &mut [u8],
+    used: usize,
+    h: Header,
+    store: &mut [u32],
+    budget: u32,
+) -> RunEnd
+    requires { ⌜ ((P : Block) × Accepted h P (now buf) used (now store)) ⌝ }
+    ensures { λ r. ⌜ ((P : Block) → Accepted h P (now (buf .entry)) used (now (store .entry)) → Gives r (now (buf .exit)) (now (store .exit)) (acceptedRun h P (length (now (buf .entry))) (now (store .entry)) budget)) ⌝ }
 {
+    let contents = h.contents_at();
+    let largest = h.largest();
     let room = buf.len();
     buffer::zero(buf, used, room - used);
     let mut size = used;
     let mut tally = Tally::start(budget);
     loop {
-        let plan = look(buf, size, store);
+        let plan = look(buf, size, store, contents, largest);
         let outcome = outcome_of(plan, size, room);
         if run::ends(outcome, tally) {
             return run::answer(outcome, tally, size as u32);
         }
-        size = perform(buf, size, store, plan);
+        size = perform(buf, size, store, plan, contents);
         tally = tally.advance();
     }
 }
@@ -46,5 +54,6 @@ pub fn run_stepper(buf: &mut [u8], used: usize, store: &mut [u32], budget: u32) 
     if store.len() != checked.k as usize {
         return run::refuse(6);
     }
-    run_accepted(buf, used, store, budget)
+    let h = record::read_header(buf);
+    run_accepted(buf, used, h, store, budget)
 }

@@ -12,7 +12,10 @@ use Rattle.rules.specs.Reduction.{onNext}
 use Rattle.rules.specs.Rules.{Step, at}
 use Rattle.rules.specs.Scope.{BlockWithin, Within}
 use Rattle.rules.specs.Step.{step}
-use Rattle.rules.specs.Store.{fitsWord, update}
+use mathlib.Core.Bool.{Bool}
+use Rattle.rules.specs.Store.{update}
+use Rattle.record.specs.declared.Header.{Header}
+use Rattle.record.specs.Header.{contentsAt, okOf}
 use Rattle.rules.specs.Syntax.{Block, Bound, Config, Expr, assign, empty, lit, loop, nest, next, upto}
 use Rattle.place.specs.Edit.{lead, leafBytes, removed, unrolled}
 use Rattle.place.specs.Heads.{recordHead, shifted}
@@ -43,15 +46,15 @@ onNext-next : (p : List Block) (b : Block) (s : List ℕ) → onNext (plugConfig
 unfolding onNext
 onNext-next p b s = refl
 
-spot-steps : (P b : Block) (s t : List ℕ) (b₀ : Block) → spot P ≡ b₀ → 0 < blockSize b₀ → Step fitsWord (at b₀ s) (at b t) → step fitsWord (at P s) ≡ next (at (plug blocks (path P) b) t)
-spot-steps P b s t b₀ is h r =
+spot-steps : (ok : ℕ → Bool) (P b : Block) (s t : List ℕ) (b₀ : Block) → spot P ≡ b₀ → 0 < blockSize b₀ → Step ok (at b₀ s) (at b t) → step ok (at P s) ≡ next (at (plug blocks (path P) b) t)
+spot-steps ok P b s t b₀ is h r =
     let some : 0 < blockSize P = subst (λ (c : Block). 0 < blockSize c) (plug-spot P) (plug-some (path P) (spot P) (subst (λ (c : Block). 0 < blockSize c) (sym is) h)) in
-    step-spot fitsWord P s some ∙ ap (λ (c : Block). onNext (plugConfig (path P)) (step fitsWord (at c s))) is ∙ ap (onNext (plugConfig (path P))) (rules-step fitsWord r)
+    step-spot ok P s some ∙ ap (λ (c : Block). onNext (plugConfig (path P)) (step ok (at c s))) is ∙ ap (onNext (plugConfig (path P))) (rules-step ok r)
     ∙ onNext-next (path P) b t
 
-module _ {k : ℕ} {P : Block} {s : List ℕ} {l : List ℕ} {used : ℕ} (h : Stands k (at P s) l used) where
+module _ {hd : Header} {P : Block} {s : List ℕ} {l : List ℕ} {used : ℕ} (h : Stands hd (at P s) l used) where
   abbrev place : ℕ
-  place = blockAt + 4 * length (path P)
+  place = blockAt hd + 4 * length (path P)
 
   fits-buf : used ≤ length l
   fits-buf = h .holds .within
@@ -65,60 +68,60 @@ module _ {k : ℕ} {P : Block} {s : List ℕ} {l : List ℕ} {used : ℕ} (h : S
   -- the block that the rules act on is b₀
   module _ (b₀ : Block) (is : spot P ≡ b₀) where
     front : List ℕ
-    front = programFront k (path P) (blockSize b₀)
+    front = programFront hd (path P) (blockSize b₀)
 
     bytes₀ : take used l ≡ front ++ (encodeBlock b₀ ++ rests blocks (path P))
     unfolding front
-    bytes₀ = subst (λ (c : Block). take used l ≡ programFront k (path P) (blockSize c) ++ (encodeBlock c ++ rests blocks (path P))) is (spot-bytes h)
+    bytes₀ = subst (λ (c : Block). take used l ≡ programFront hd (path P) (blockSize c) ++ (encodeBlock c ++ rests blocks (path P))) is (spot-bytes h)
 
-    used₀ : blockAt + (blockSize b₀ + around blocks (path P)) ≡ used
-    used₀ = subst (λ (c : Block). blockAt + (blockSize c + around blocks (path P)) ≡ used) is (spot-used h)
+    used₀ : blockAt hd + (blockSize b₀ + around blocks (path P)) ≡ used
+    used₀ = subst (λ (c : Block). blockAt hd + (blockSize c + around blocks (path P)) ≡ used) is (spot-used h)
 
     room₀ : place + blockSize b₀ ≤ used
     room₀ = subst (λ (c : Block). place + blockSize c ≤ used) is (spot-room h)
 
     front₀ : length front ≡ place
     unfolding front
-    front₀ = length-programFront k (path P) (blockSize b₀)
+    front₀ = length-programFront hd (path P) (blockSize b₀)
 
     -- any edit m of the bytes that leaves the block b there, and zeros behind the record
-    made : (b : Block) (t m : List ℕ) (up down size : ℕ) → 0 < blockSize b₀ → Step fitsWord (at b₀ s) (at b t)
+    made : (b : Block) (t m : List ℕ) (up down size : ℕ) → 0 < blockSize b₀ → Step (okOf hd) (at b₀ s) (at b t)
         → blockSize b + down ≡ blockSize b₀ + up → used + up - down ≡ size → size ≤ length l
         → take size m ≡ front ++ (encodeBlock b ++ rests blocks (path P)) → drop size m ≡ zeros (length l - size)
-        → Performed k (at P s) (length l) (relengthAll (shifted up down) (length (path P) + 1) m) t (used + up - down)
+        → Performed hd (at P s) (length l) (relengthAll (shifted up down) (contentsAt hd) (length (path P) + 1) m) t (used + up - down)
     unfolding front
     made b t m up down size some r sizes new fits bytes tail =
         let d : Config = at (plug blocks (path P) b) t in
-        let goes : step fitsWord (at P s) ≡ next d = spot-steps P b s t b₀ is some r in
+        let goes : step (okOf hd) (at P s) ≡ next d = spot-steps (okOf hd) P b s t b₀ is some r in
         let short : used < 65536 = omega (arith, h .short, h .holds .within) in
-        let lp : length (configBytes k d) ≡ 12 + blockSize (plug blocks (path P) b) = length-encodeProgram k (plug blocks (path P) b) in
+        let lp : length (configBytes hd d) ≡ contentsAt hd + (4 + blockSize (plug blocks (path P) b)) = length-encodeProgram hd (plug blocks (path P) b) in
         let bp : blockSize (plug blocks (path P) b) ≡ blockSize b + around blocks (path P) = blockSize-plug (path P) b in
-        let u : blockAt + (blockSize b₀ + around blocks (path P)) ≡ used = used₀ in
-        let n : length (configBytes k d) ≡ size = omega arith in
+        let u : blockAt hd + (blockSize b₀ + around blocks (path P)) ≡ used = used₀ in
+        let n : length (configBytes hd d) ≡ size = omega arith in
         let one : suc (length (path P)) ≡ length (path P) + 1 = omega arith in
-        let pad : padded (length l) (configBytes k d) ≡ configBytes k d ++ zeros (length l - size) =
-        padded-zeros (length l) (length l - size) (configBytes k d) (ap (λ (y : ℕ). length l - y) n) in
-        let eq : relengthAll (shifted up down) (length (path P) + 1) m ≡ padded (length l) (configBytes k d) =
-        ap (λ (y : ℕ). relengthAll (shifted up down) y m) (sym one)
-        ∙ encodeProgram-relength k up down (blockSize b₀) size (path P) b m bytes sizes (omega arith)
-        ∙ ap (λ (y : List ℕ). configBytes k d ++ y) tail ∙ sym pad in
+        let pad : padded (length l) (configBytes hd d) ≡ configBytes hd d ++ zeros (length l - size) =
+        padded-zeros (length l) (length l - size) (configBytes hd d) (ap (λ (y : ℕ). length l - y) n) in
+        let eq : relengthAll (shifted up down) (contentsAt hd) (length (path P) + 1) m ≡ padded (length l) (configBytes hd d) =
+        ap (λ (y : ℕ). relengthAll (shifted up down) (contentsAt hd) y m) (sym one)
+        ∙ encodeProgram-relength hd up down (blockSize b₀) size (path P) b m bytes sizes (omega arith)
+        ∙ ap (λ (y : List ℕ). configBytes hd d ++ y) tail ∙ sym pad in
         let stands = stands-after d h goes (omega arith) in
-        let to : length (configBytes k d) ≡ used + up - down = n ∙ sym new in
+        let to : length (configBytes hd d) ≡ used + up - down = n ∙ sym new in
         record {
           after = d;
           steps = goes;
           bytes = eq;
           values = refl;
           size = sym to;
-          stands = subst (λ (y : List ℕ). Stands k d y (used + up - down)) (sym eq) (subst (λ (y : ℕ). Stands k d (padded (length l) (configBytes k d)) y) to stands);
+          stands = subst (λ (y : List ℕ). Stands hd d y (used + up - down)) (sym eq) (subst (λ (y : ℕ). Stands hd d (padded (length l) (configBytes hd d)) y) to stands);
         }
 
   -- EACH RULE
 
   abbrev Made : ℕ → ℕ → List ℕ → List ℕ → Type 0
-  Made up down m t = Performed k (at P s) (length l) (relengthAll (shifted up down) (length (path P) + 1) m) t (used + up - down)
+  Made up down m t = Performed hd (at P s) (length l) (relengthAll (shifted up down) (contentsAt hd) (length (path P) + 1) m) t (used + up - down)
 
-  bind-made : (x v : ℕ) (e : Expr) (r : Block) → spot P ≡ assign x e r → Step fitsWord (at (assign x e r) s) (at r (update s x v))
+  bind-made : (x v : ℕ) (e : Expr) (r : Block) → spot P ≡ assign x e r → Step (okOf hd) (at (assign x e r) s) (at r (update s x v))
       → Made 0 16 (removed l place 16 used) (update s x v)
   bind-made x v e r is st =
       let z : blockSize (assign x e r) ≡ 16 + blockSize r = blockSize-assign x e r in
@@ -128,7 +131,7 @@ module _ {k : ℕ} {P : Block} {s : List ℕ} {l : List ℕ} {used : ℕ} (h : S
       (assign-gone l m (front (assign x e r) is) (rests blocks (path P)) place used fits-buf (front₀ (assign x e r) is) x e r (bytes₀ (assign x e r) is) (removed-cut l place 16 used order fits-buf))
       (tail-removed place 16 order)
 
-  evaluate-made : (x v : ℕ) (e : Expr) (r : Block) → spot P ≡ assign x e r → Step fitsWord (at (assign x e r) s) (at (assign x (lit v) r) s)
+  evaluate-made : (x v : ℕ) (e : Expr) (r : Block) → spot P ≡ assign x e r → Step (okOf hd) (at (assign x e r) s) (at (assign x (lit v) r) s)
       → Made 0 0 (put l (place + 8) (leafBytes 16 v)) s
   evaluate-made x v e r is st =
       let z : blockSize (assign x e r) ≡ 16 + blockSize r = blockSize-assign x e r in
@@ -138,7 +141,7 @@ module _ {k : ℕ} {P : Block} {s : List ℕ} {l : List ℕ} {used : ℕ} (h : S
       (assign-literal l (front (assign x e r) is) (rests blocks (path P)) place used x v e r (bytes₀ (assign x e r) is) fits-buf (front₀ (assign x e r) is))
       (drop-put l (leafBytes 16 v) (place + 8) used (omega (arith, length-leafBytes 16 v)) (omega (arith, fits-buf)) ∙ zeros-behind h used (omega arith))
 
-  leave-made : (r : Block) → spot P ≡ nest empty r → Step fitsWord (at (nest empty r) s) (at r s) → Made 0 4 (removed l place 4 used) s
+  leave-made : (r : Block) → spot P ≡ nest empty r → Step (okOf hd) (at (nest empty r) s) (at r s) → Made 0 4 (removed l place 4 used) s
   leave-made r is st =
       let z : blockSize (nest empty r) ≡ 4 + blockSize r = blockSize-nest empty r ∙ ap (λ (y : ℕ). 4 + y + blockSize r) blockSize-empty in
       let order : place + 4 ≤ used = omega (arith, room₀ (nest empty r) is) in
@@ -147,7 +150,7 @@ module _ {k : ℕ} {P : Block} {s : List ℕ} {l : List ℕ} {used : ℕ} (h : S
       (nest-gone l m (front (nest empty r) is) (rests blocks (path P)) place used fits-buf (front₀ (nest empty r) is) r (bytes₀ (nest empty r) is) (removed-cut l place 4 used order fits-buf))
       (tail-removed place 4 order)
 
-  stop-made : (x : ℕ) (n : Bound) (b r : Block) → spot P ≡ loop x n b r → Step fitsWord (at (loop x n b r) s) (at (nest empty r) s)
+  stop-made : (x : ℕ) (n : Bound) (b r : Block) → spot P ≡ loop x n b r → Step (okOf hd) (at (loop x n b r) s) (at (nest empty r) s)
       → Made 0 (16 + blockSize b) (stoppedAt l place (16 + blockSize b) used) s
   unfolding stoppedAt
   stop-made x n b r is st =
@@ -161,7 +164,7 @@ module _ {k : ℕ} {P : Block} {s : List ℕ} {l : List ℕ} {used : ℕ} (h : S
       (loop-emptied l m (front (loop x n b r) is) (rests blocks (path P)) place used fits-buf (front₀ (loop x n b r) is) x n b r d refl (bytes₀ (loop x n b r) is) (removed-cut l (place + 4) d used order fits-buf))
       (drop-put m (recordHead 1 4) place (used - d) (omega (arith, length-recordHead 1 4)) (omega (arith, fits-buf)) ∙ tail-removed (place + 4) d order)
 
-  unroll-made : (x q : ℕ) (e : Bound) (b r : Block) → spot P ≡ loop x e b r → Step fitsWord (at (loop x e b r) s) (at (nest (loop x (upto q) b (assign x (lit (suc q)) b)) r) s)
+  unroll-made : (x q : ℕ) (e : Bound) (b r : Block) → spot P ≡ loop x e b r → Step (okOf hd) (at (loop x e b r) s) (at (nest (loop x (upto q) b (assign x (lit (suc q)) b)) r) s)
       → used + (20 + blockSize b) ≤ length l → Made (20 + blockSize b) 0 (unrolledAt l place (20 + blockSize b) used x (suc q)) s
   unfolding unrolledAt
   unroll-made x q e b r is st fits =
@@ -182,8 +185,8 @@ module _ {k : ℕ} {P : Block} {s : List ℕ} {l : List ℕ} {used : ℕ} (h : S
 
   -- ANY PLAN
 
-  performs-by : (b : Block) (q : Plan) → Planned s (length (path P)) place b q → spot P ≡ b → Moves (q .rule) → used + q .up ≤ length l + q .down
-      → Performed k (at P s) (length l) (relengthAll (shifted (q .up) (q .down)) (q .levels + 1) (edited q (q .rule) used l)) (valued q (q .rule) s) (used + q .up - q .down)
+  performs-by : (b : Block) (q : Plan) → Planned (okOf hd) s (length (path P)) place b q → spot P ≡ b → Moves (q .rule) → used + q .up ≤ length l + q .down
+      → Performed hd (at P s) (length l) (relengthAll (shifted (q .up) (q .down)) (contentsAt hd) (q .levels + 1) (edited q (q .rule) used l)) (valued q (q .rule) s) (used + q .up - q .down)
   unfolding edited valued
   performs-by _ _ plannedFinished is moves fits = absurd moves
   performs-by _ _ plannedOver is moves fits = absurd moves
@@ -193,37 +196,37 @@ module _ {k : ℕ} {P : Block} {s : List ℕ} {l : List ℕ} {used : ℕ} (h : S
   performs-by _ _ (plannedStop {x} {n} {b} {r} st) is moves fits = stop-made x n b r is st
   performs-by _ _ (plannedUnroll {x} {q} {n} {b} {r} st) is moves fits = unroll-made x q n b r is st (omega arith)
 
-  planned : Planned s (length (path P)) place (spot P) (planOf P s)
+  planned : Planned (okOf hd) s (length (path P)) place (spot P) (planOf (contentsAt hd) (okOf hd) P s)
   unfolding planOf
-  planned = planned-block s (length (path P)) place P
+  planned = planned-block (okOf hd) s (length (path P)) place P
 
   -- the edit, the store and the lengths of the plan are the step
-  performs : (q : Plan) → q ≡ planOf P s → Moves (q .rule) → used + q .up ≤ length l + q .down
-      → Performed k (at P s) (length l) (relengthAll (shifted (q .up) (q .down)) (q .levels + 1) (edited q (q .rule) used l)) (valued q (q .rule) s) (used + q .up - q .down)
-  performs q e moves fits = performs-by (spot P) q (subst (λ (y : Plan). Planned s (length (path P)) place (spot P) y) (sym e) planned) refl moves fits
+  performs : (q : Plan) → q ≡ planOf (contentsAt hd) (okOf hd) P s → Moves (q .rule) → used + q .up ≤ length l + q .down
+      → Performed hd (at P s) (length l) (relengthAll (shifted (q .up) (q .down)) (contentsAt hd) (q .levels + 1) (edited q (q .rule) used l)) (valued q (q .rule) s) (used + q .up - q .down)
+  performs q e moves fits = performs-by (spot P) q (subst (λ (y : Plan). Planned (okOf hd) s (length (path P)) place (spot P) y) (sym e) planned) refl moves fits
 
   -- as the code makes it, call by call
-  pub performs-is : (q : Plan) → q ≡ planOf P s → Moves (q .rule) → used + q .up ≤ length l + q .down → (m₁ m₂ t : List ℕ) → m₁ ≡ edited q (q .rule) used l
-      → m₂ ≡ relengthAll (shifted (q .up) (q .down)) (q .levels + 1) m₁ → t ≡ valued q (q .rule) s → Performed k (at P s) (length l) m₂ t (used + q .up - q .down)
-  performs-is q e moves fits m₁ m₂ t e₁ e₂ e₃ =
-      let f : List ℕ → List ℕ = relengthAll (shifted (q .up) (q .down)) (q .levels + 1) in
-      subst (λ (y : List ℕ). Performed k (at P s) (length l) m₂ y (used + q .up - q .down)) (sym e₃)
-      (subst (λ (y : List ℕ). Performed k (at P s) (length l) y (valued q (q .rule) s) (used + q .up - q .down)) (sym (e₂ ∙ ap f e₁)) (performs q e moves fits))
+  pub performs-is : (contents : ℕ) → contentsAt hd ≡ contents → (q : Plan) → q ≡ planOf (contentsAt hd) (okOf hd) P s → Moves (q .rule) → used + q .up ≤ length l + q .down → (m₁ m₂ t : List ℕ) → m₁ ≡ edited q (q .rule) used l
+      → m₂ ≡ relengthAll (shifted (q .up) (q .down)) contents (q .levels + 1) m₁ → t ≡ valued q (q .rule) s → Performed hd (at P s) (length l) m₂ t (used + q .up - q .down)
+  performs-is contents at-contents q e moves fits m₁ m₂ t e₁ e₂ e₃ =
+      let f : ℕ → List ℕ → List ℕ = λ n. relengthAll (shifted (q .up) (q .down)) n (q .levels + 1) in
+      subst (λ (y : List ℕ). Performed hd (at P s) (length l) m₂ y (used + q .up - q .down)) (sym e₃)
+      (subst (λ (y : List ℕ). Performed hd (at P s) (length l) y (valued q (q .rule) s) (used + q .up - q .down)) (sym (e₂ ∙ ap (f contents) e₁ ∙ ap (λ (n : ℕ). f n (edited q (q .rule) used l)) (sym at-contents))) (performs q e moves fits))
 
   -- WHAT THE CODE ASKS of the numbers
 
-  within-spot : (b : Block) → spot P ≡ b → BlockWithin k b
+  within-spot : (b : Block) → spot P ≡ b → BlockWithin (hd .k) b
   within-spot b is =
-      subst (λ (c : Block). BlockWithin k c) is
-      (plug-keeps blocks (λ (c : Block). BlockWithin k c) (λ t r w. w .0) (path P) (spot P) (subst (λ (c : Block). BlockWithin k c) (sym (plug-spot P)) (h .holds .variables)))
+      subst (λ (c : Block). BlockWithin (hd .k) c) is
+      (plug-keeps blocks (λ (c : Block). BlockWithin (hd .k) c) (λ t r w. w .0) (path P) (spot P) (subst (λ (c : Block). BlockWithin (hd .k) c) (sym (plug-spot P)) (h .holds .variables)))
 
-  asks-by : (b : Block) (q : Plan) → Planned s (length (path P)) place b q → spot P ≡ b → used + q .up ≤ length l + q .down → PlanFits q used (length l) (length s)
+  asks-by : (b : Block) (q : Plan) → Planned (okOf hd) s (length (path P)) place b q → spot P ≡ b → used + q .up ≤ length l + q .down → PlanFits (contentsAt hd) q used (length l) (length s)
   asks-by _ _ plannedFinished is fits = record { edit = tt; value = tt; levels = omega (arith, spot-room h, fits-buf); up = omega arith; down = omega arith }
   asks-by _ _ plannedOver is fits = record { edit = tt; value = tt; levels = omega (arith, spot-room h, fits-buf); up = omega arith; down = omega arith }
   asks-by _ _ (plannedBind {x} {v} {e} {r} st) is fits =
       let z : blockSize (assign x e r) ≡ 16 + blockSize r = blockSize-assign x e r in
-      let w : Within k x = within-spot (assign x e r) is .0 in
-      let n : length s ≡ k = h .count in
+      let w : Within (hd .k) x = within-spot (assign x e r) is .0 in
+      let n : length s ≡ hd .k = h .count in
       let room : place + blockSize (assign x e r) ≤ used = room₀ (assign x e r) is in
       record { edit = omega arith; value = (w .0, omega (arith, w .1)); levels = omega (arith, fits-buf); up = omega arith; down = omega arith }
   asks-by _ _ (plannedEvaluate {x} {v} {e} {r} st) is fits =
@@ -244,12 +247,12 @@ module _ {k : ℕ} {P : Block} {s : List ℕ} {l : List ℕ} {used : ℕ} (h : S
       let small : length l ≤ 16384 = h .short in
       record { edit = (omega arith, omega arith, omega arith, omega arith); value = tt; levels = omega (arith, fits-buf); up = omega arith; down = omega arith }
 
-  plan-fits : (q : Plan) → q ≡ planOf P s → used + q .up ≤ length l + q .down → PlanFits q used (length l) (length s)
-  plan-fits q e fits = asks-by (spot P) q (subst (λ (y : Plan). Planned s (length (path P)) place (spot P) y) (sym e) planned) refl fits
+  plan-fits : (q : Plan) → q ≡ planOf (contentsAt hd) (okOf hd) P s → used + q .up ≤ length l + q .down → PlanFits (contentsAt hd) q used (length l) (length s)
+  plan-fits q e fits = asks-by (spot P) q (subst (λ (y : Plan). Planned (okOf hd) s (length (path P)) place (spot P) y) (sym e) planned) refl fits
 
   -- BEFORE THE ROOM IS KNOWN: what comes and what goes is no longer than the record
 
-  sums-by : (b : Block) (q : Plan) → Planned s (length (path P)) place b q → spot P ≡ b → (q .up ≤ used) × (q .down ≤ used)
+  sums-by : (b : Block) (q : Plan) → Planned (okOf hd) s (length (path P)) place b q → spot P ≡ b → (q .up ≤ used) × (q .down ≤ used)
   sums-by _ _ plannedFinished is = (omega arith, omega arith)
   sums-by _ _ plannedOver is = (omega arith, omega arith)
   sums-by _ _ (plannedBind {x} {v} {e} {r} st) is =
@@ -270,8 +273,8 @@ module _ {k : ℕ} {P : Block} {s : List ℕ} {l : List ℕ} {used : ℕ} (h : S
       let room : place + blockSize (loop x n b r) ≤ used = room₀ (loop x n b r) is in
       (omega arith, omega arith)
 
-  pub plan-sums : (q : Plan) → q ≡ planOf P s → (q .up ≤ used) × (q .down ≤ used)
-  plan-sums q e = sums-by (spot P) q (subst (λ (y : Plan). Planned s (length (path P)) place (spot P) y) (sym e) planned) refl
+  pub plan-sums : (q : Plan) → q ≡ planOf (contentsAt hd) (okOf hd) P s → (q .up ≤ used) × (q .down ≤ used)
+  plan-sums q e = sums-by (spot P) q (subst (λ (y : Plan). Planned (okOf hd) s (length (path P)) place (spot P) y) (sym e) planned) refl
 
-pub ready-fits : {k : ℕ} {P : Block} {s : List ℕ} {l : List ℕ} {used : ℕ} (q : Plan) → Ready k P l used s q → PlanFits q used (length l) (length s)
+pub ready-fits : {hd : Header} {P : Block} {s : List ℕ} {l : List ℕ} {used : ℕ} (q : Plan) → Ready hd P l used s q → PlanFits (contentsAt hd) q used (length l) (length s)
 ready-fits q h = plan-fits (h .stands) q (h .plans) (h .fits)

@@ -7,12 +7,13 @@ use Rattle.buffer.specs.Slice.{put}
 use Rattle.rules.specs.Rules.{at}
 use Rattle.rules.specs.Scope.{Within}
 use Rattle.rules.specs.Step.{step}
-use Rattle.rules.specs.Store.{fitsWord, update}
+use Rattle.rules.specs.Store.{update}
 use Rattle.rules.specs.Syntax.{Block, Config, next}
 use Rattle.place.specs.Edit.{lead, leafBytes, removed, unrolled}
 use Rattle.place.specs.Heads.{recordHead}
 use Rattle.record.specs.Answers.{padded}
-use Rattle.record.specs.Header.{contentsAt}
+use Rattle.record.specs.declared.Header.{Header}
+use Rattle.record.specs.Header.{contentsAt, okOf}
 use Rattle.plan.specs.Plan.{Moves}
 use Rattle.plan.specs.declared.Plan.{Plan}
 use Rattle.plan.specs.declared.Rule.{Rule}
@@ -74,28 +75,28 @@ ValueFits p Stop k = Unit {0}
 ValueFits p Unroll k = Unit {0}
 
 -- All that the code asks of the numbers of a plan, in a buffer of `room` bytes and a store of k values.
-pub record PlanFits (p : Plan) (used room k : ℕ) : Type 0 where
+pub record PlanFits (contents : ℕ) (p : Plan) (used room k : ℕ) : Type 0 where
   pub edit : EditFits p (p .rule) used room
   pub value : ValueFits p (p .rule) k
-  pub levels : contentsAt + 4 * (p .levels + 1) ≤ room
+  pub levels : contents + 4 * (p .levels + 1) ≤ room
   pub up : p .up ≤ 16384
   pub down : p .down ≤ used + p .up
 
 -- THE STEP
 
 -- What stands before a step: the program P with the store, its plan, which makes a step, and room for the next state.
-pub record Ready (k : ℕ) (P : Block) (buf : List ℕ) (used : ℕ) (store : List ℕ) (p : Plan) : Type 0 where
-  pub stands : Stands k (at P store) buf used
-  pub plans : p ≡ planOf P store
+pub record Ready (h : Header) (P : Block) (buf : List ℕ) (used : ℕ) (store : List ℕ) (p : Plan) : Type 0 where
+  pub stands : Stands h (at P store) buf used
+  pub plans : p ≡ planOf (contentsAt h) (okOf h) P store
   pub moves : Moves (p .rule)
   pub fits : used + p .up ≤ length buf + p .down
 
 -- From the configuration c in a buffer of `room` bytes: the rules' next configuration stands in the buffer, with zeros behind
 -- it, and in the store, and `used` is its length.
-pub record Performed (k : ℕ) (c : Config) (room : ℕ) (buf : List ℕ) (store : List ℕ) (used : ℕ) : Type 0 where
+pub record Performed (h : Header) (c : Config) (room : ℕ) (buf : List ℕ) (store : List ℕ) (used : ℕ) : Type 0 where
   pub after : Config
-  pub steps : step fitsWord c ≡ next after
-  pub bytes : buf ≡ padded room (configBytes k after)
+  pub steps : step (okOf h) c ≡ next after
+  pub bytes : buf ≡ padded room (configBytes h after)
   pub values : store ≡ after .store
-  pub size : used ≡ length (configBytes k after)
-  pub stands : Stands k after buf used
+  pub size : used ≡ length (configBytes h after)
+  pub stands : Stands h after buf used

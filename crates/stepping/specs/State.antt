@@ -4,21 +4,21 @@ use mathlib.Core.Path.{_≡_}
 use mathlib.Core.List.{List}
 use lib.ListN.{length}
 use Rattle.record.specs.Answers.{padded}
-use Rattle.record.specs.Header.{encodeProgram}
+use Rattle.record.specs.declared.Header.{Header}
+use Rattle.record.specs.Header.{encodeProgram, okOf}
 use Rattle.record.specs.Holding.{ProgramIn}
 use Rattle.rules.specs.Sound.{SmallValues}
-use Rattle.rules.specs.Store.{fitsWord}
 use Rattle.rules.specs.Syntax.{Config}
 
--- The record of a configuration of k variables: its program's. The store is lent beside it.
-abbrev pub configBytes : ℕ → Config → List ℕ
-configBytes k c = encodeProgram k (c .block)
+-- The record of a configuration with this header: its program's. The store is lent beside it.
+abbrev pub configBytes : Header → Config → List ℕ
+configBytes h c = encodeProgram h (c .block)
 
 -- The record of the configuration's program is the first `used` bytes of the buffer, zeros are behind it, and the store has
 -- its k values.
-pub record Stands (k : ℕ) (c : Config) (buf : List ℕ) (used : ℕ) : Type 0 where
-  pub holds : ProgramIn k (c .block) buf used
+pub record Stands (h : Header) (c : Config) (buf : List ℕ) (used : ℕ) : Type 0 where
+  pub holds : ProgramIn h (c .block) buf used
   pub short : length buf ≤ 16384
-  pub clear : buf ≡ padded (length buf) (encodeProgram k (c .block))
-  pub count : length (c .store) ≡ k
-  pub values : SmallValues fitsWord (c .store)
+  pub clear : buf ≡ padded (length buf) (encodeProgram h (c .block))
+  pub count : length (c .store) ≡ h .k
+  pub values : SmallValues (okOf h) (c .store)

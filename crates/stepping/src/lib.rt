@@ -1,12 +1,14 @@
 // One step of a configuration made in place, by its plan (01 "Stepper"). Only the bytes of the command and those behind it move;
 // the lengths around it are brought up to date by one loop.
 ghost use mathlib.Core.Path.{_≡_};
-ghost use Prim.Native.Nat.{ℕ, _+_, _<_, _≤_};
+ghost use Prim.Native.Nat.{_+_, _<_, _≤_};
 ghost use lib.ListN.{length};
 ghost use Rattle.rules.specs.Rules.{at};
 ghost use Rattle.rules.specs.Scope.{Within};
 ghost use Rattle.rules.specs.Store.{update};
 ghost use Rattle.rules.specs.Syntax.{Block};
+ghost use Rattle.record.specs.declared.Header.{Header};
+ghost use Rattle.record.specs.Header.{contentsAt, okOf};
 ghost use Rattle.command.specs.Plan.{planOf};
 ghost use Rattle.stepping.specs.Perform.{EditFits, Performed, Ready, ValueFits, edited, stoppedAt, unrolledAt, valued};
 ghost use Rattle.stepping.specs.State.{Stands};
@@ -88,12 +90,12 @@ fn keep_value(store: &mut [u32], p: Plan)
 
 // Makes the step of a plan that the look gave for the program and the store as they are; the result is the record's new length.
 // The store changes last: nothing before reads it, and the plan has the value.
-pub fn perform(buf: &mut [u8], used: usize, store: &mut [u32], p: Plan) -> usize
-    requires { ⌜ ((k : ℕ) × ((P : Block) × Ready k P (now buf) used (now store) p)) ⌝ }
-    ensures { λ r. ⌜ ((k : ℕ) (P : Block) → Stands k (at P (now (store .entry))) (now (buf .entry)) used → p ≡ planOf P (now (store .entry)) → Performed k (at P (now (store .entry))) (length (now (buf .entry))) (now (buf .exit)) (now (store .exit)) r) ⌝ }
+pub fn perform(buf: &mut [u8], used: usize, store: &mut [u32], p: Plan, contents: usize) -> usize
+    requires { ⌜ ((h : Header) × ((P : Block) × (Ready h P (now buf) used (now store) p × (contentsAt h ≡ contents)))) ⌝ }
+    ensures { λ r. ⌜ ((h : Header) (P : Block) → Stands h (at P (now (store .entry))) (now (buf .entry)) used → p ≡ planOf (contentsAt h) (okOf h) P (now (store .entry)) → contentsAt h ≡ contents → Performed h (at P (now (store .entry))) (length (now (buf .entry))) (now (buf .exit)) (now (store .exit)) r) ⌝ }
 {
     edit(buf, used, p);
-    relength(buf, p.levels + 1, p.up, p.down);
+    relength(buf, contents, p.levels + 1, p.up, p.down);
     keep_value(store, p);
     used + p.up - p.down
 }

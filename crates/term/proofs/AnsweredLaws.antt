@@ -7,6 +7,7 @@ use mathlib.Core.Option.{Option, none, some}
 use lib.ListN.{length}
 use native.Mathlib.Omega.{arith}
 use Rattle.record.specs.Answers.{Stored, Wrote, checkProgram, checkTerm, checkTermRows, padded}
+use Rattle.record.specs.declared.Header.{Header}
 use Rattle.record.specs.Header.{encodeProgram, encodeTerm}
 use Rattle.record.specs.Holding.{ProgramIn, TermIn}
 use Rattle.record.specs.Rows.{Row, badBuffer, badStore, finishedTerm, firstRow, isNone, row, termRows, tooLong}
@@ -17,7 +18,6 @@ use Rattle.rules.specs.Substitution.{fromStore, substitute}
 use Rattle.rules.specs.Syntax.{Block, Term, num, tuple}
 use Rattle.rules.specs.Translation.{translate}
 use Rattle.record.proofs.CheckedRowLaws.{closed-term, program-refuses, term-refuses}
-use Rattle.record.proofs.HeldLaws.{long-buffer, not-long}
 use Rattle.record.proofs.HoldingLaws.{term-k, term-passes}
 use Rattle.record.proofs.RowLaws.{first-applies, first-behind, first-skips, isNone-none, isNone-some, not-intro, or-right, or-true}
 use Rattle.record.proofs.RowMeaningLaws.{finished-iff, rows-mean}
@@ -33,36 +33,36 @@ refusal n buf = record { number = n; used = 0; written = buf }
 
 -- ROW 1 of a call with an output buffer
 
-either-long : (src : List ℕ) (used : ℕ) (out : List ℕ) → 16384 < length out → (badBuffer src used || tooLong out) ≡ true
-either-long src used out h = or-true (badBuffer src used) (tooLong out) (long-buffer out h)
+either-long : (src : List ℕ) (used : ℕ) (out : List ℕ) → tooLong out ≡ true → (badBuffer src used || tooLong out) ≡ true
+either-long src used out h = or-true (badBuffer src used) (tooLong out) h
 
-source-alone : (src : List ℕ) (used : ℕ) (out : List ℕ) → length out ≤ 16384 → (badBuffer src used || tooLong out) ≡ badBuffer src used
-source-alone src used out h = or-right (badBuffer src used) (tooLong out) (not-long out h)
+source-alone : (src : List ℕ) (used : ℕ) (out : List ℕ) → tooLong out ≡ false → (badBuffer src used || tooLong out) ≡ badBuffer src used
+source-alone src used out h = or-right (badBuffer src used) (tooLong out) h
 
 -- TRANSLATE
 
 translate-row : (src : List ℕ) (used : ℕ) (out : List ℕ) (n : ℕ) → firstRow (translateRows src used out) ≡ n → (n ≡ 0 → ⊥) → refusal n out ≡ translateCall src used out
 translate-row src used out n e h = sym (translate-refused src used out (λ z. h (sym e ∙ z)) ∙ ap (λ m. refusal m out) e)
 
-pub translate-one : (src : List ℕ) (used : ℕ) (out : List ℕ) → 16384 < length out → refusal 1 out ≡ translateCall src used out
+pub translate-one : (src : List ℕ) (used : ℕ) (out : List ℕ) → tooLong out ≡ true → refusal 1 out ≡ translateCall src used out
 translate-one src used out h =
     translate-row src used out 1 (first-applies 1 (badBuffer src used || tooLong out) _ (either-long src used out h)) (λ z. omega (arith, z))
 
-pub translate-checked : (src : List ℕ) (used n k : ℕ) (out : List ℕ) → checkProgram src used ≡ record { number = n; k = k } → (n ≡ 0 → ⊥) → length out ≤ 16384
+pub translate-checked : (src : List ℕ) (used n k : ℕ) (out : List ℕ) → checkProgram src used ≡ record { number = n; k = k } → (n ≡ 0 → ⊥) → tooLong out ≡ false
     → refusal n out ≡ translateCall src used out
 translate-checked src used n k out e h lo =
     translate-row src used out n (program-refuses src used n k e h (badBuffer src used || tooLong out) (source-alone src used out lo) _) h
 
-module _ {k : ℕ} {P : Block} {src : List ℕ} {used : ℕ} (h : ProgramIn k P src used) (l : length src ≤ 16384) (out : List ℕ) (lo : length out ≤ 16384) (n : ℕ) (e : n ≡ length (encodeTerm k (translate k P))) where
+module _ {hd : Header} {P : Block} {src : List ℕ} {used : ℕ} (h : ProgramIn hd P src used) (l : length src ≤ 16384) (out : List ℕ) (lo : length out ≤ 16384) (n : ℕ) (e : n ≡ length (encodeTerm hd (translate (hd .k) P))) where
   pub translate-ten : length out < n → refusal 10 out ≡ translateCall src used out
   translate-ten f =
       translate-row src used out 10 (sym (translate-number src used out) ∙ translate-long h l out lo (omega (arith, e, f))) (λ z. omega (arith, z))
 
-  pub translate-zero : n ≤ length out → (after : List ℕ) → after ≡ padded (length out) (encodeTerm k (translate k P))
+  pub translate-zero : n ≤ length out → (after : List ℕ) → after ≡ padded (length out) (encodeTerm hd (translate (hd .k) P))
       → record { number = 0; used = n; written = after } ≡ translateCall src used out
   translate-zero f after a =
       ap (λ (m : ℕ). record { number = 0; used = m; written = after }) e
-      ∙ ap (λ (b : List ℕ). record { number = 0; used = length (encodeTerm k (translate k P)); written = b }) a
+      ∙ ap (λ (b : List ℕ). record { number = 0; used = length (encodeTerm hd (translate (hd .k) P)); written = b }) a
       ∙ sym (translate-fits h l out lo (omega (arith, e, f)))
 
 -- READ BACK
@@ -70,11 +70,11 @@ module _ {k : ℕ} {P : Block} {src : List ℕ} {used : ℕ} (h : ProgramIn k P 
 readBack-row : (src : List ℕ) (used : ℕ) (out : List ℕ) (n : ℕ) → firstRow (readBackRows src used out) ≡ n → (n ≡ 0 → ⊥) → refusal n out ≡ readBackCall src used out
 readBack-row src used out n e h = sym (readBack-refused src used out (λ z. h (sym e ∙ z)) ∙ ap (λ m. refusal m out) e)
 
-pub readBack-one : (src : List ℕ) (used : ℕ) (out : List ℕ) → 16384 < length out → refusal 1 out ≡ readBackCall src used out
+pub readBack-one : (src : List ℕ) (used : ℕ) (out : List ℕ) → tooLong out ≡ true → refusal 1 out ≡ readBackCall src used out
 readBack-one src used out h =
     readBack-row src used out 1 (first-applies 1 (badBuffer src used || tooLong out) _ (either-long src used out h)) (λ z. omega (arith, z))
 
-pub readBack-checked : (src : List ℕ) (used n k : ℕ) (out : List ℕ) → checkTerm src used ≡ record { number = n; k = k } → (n ≡ 0 → ⊥) → length out ≤ 16384
+pub readBack-checked : (src : List ℕ) (used n k : ℕ) (out : List ℕ) → checkTerm src used ≡ record { number = n; k = k } → (n ≡ 0 → ⊥) → tooLong out ≡ false
     → refusal n out ≡ readBackCall src used out
 readBack-checked src used n k out e h lo =
     readBack-row src used out n (term-refuses src used n k e h (badBuffer src used || tooLong out) (source-alone src used out lo) _) h
@@ -84,21 +84,21 @@ no-source : (o : Option Block) (found : Bool) → found ≡ not (isNone o) → f
 no-source none found e f = refl
 no-source (some P) found e f = true-false (sym (e ∙ ap not (isNone-some (some P) P refl)) ∙ f)
 
-module _ {k : ℕ} {t : Term} {src : List ℕ} {used : ℕ} (h : TermIn allVars k t src used) (l : length src ≤ 16384) (out : List ℕ) (lo : length out ≤ 16384) where
-  pub readBack-nine : (found : Bool) → found ≡ not (isNone (readBack k t)) → found ≡ false → refusal 9 out ≡ readBackCall src used out
+module _ {hd : Header} {t : Term} {src : List ℕ} {used : ℕ} (h : TermIn allVars hd t src used) (l : length src ≤ 16384) (out : List ℕ) (lo : length out ≤ 16384) where
+  pub readBack-nine : (found : Bool) → found ≡ not (isNone (readBack (hd .k) t)) → found ≡ false → refusal 9 out ≡ readBackCall src used out
   readBack-nine found e f =
-      readBack-row src used out 9 (sym (readBack-number src used out) ∙ readBack-none h l out lo (no-source (readBack k t) found e f)) (λ z. omega (arith, z))
+      readBack-row src used out 9 (sym (readBack-number src used out) ∙ readBack-none h l out lo (no-source (readBack (hd .k) t) found e f)) (λ z. omega (arith, z))
 
-  module _ (P : Block) (e : readBack k t ≡ some P) (n : ℕ) (m : n ≡ length (encodeProgram k P)) where
+  module _ (P : Block) (e : readBack (hd .k) t ≡ some P) (n : ℕ) (m : n ≡ length (encodeProgram hd P)) where
     pub readBack-ten : length out < n → refusal 10 out ≡ readBackCall src used out
     readBack-ten f =
         readBack-row src used out 10 (sym (readBack-number src used out) ∙ readBack-long h l out lo P e (omega (arith, m, f))) (λ z. omega (arith, z))
 
-    pub readBack-zero : n ≤ length out → (after : List ℕ) → after ≡ padded (length out) (encodeProgram k P)
+    pub readBack-zero : n ≤ length out → (after : List ℕ) → after ≡ padded (length out) (encodeProgram hd P)
         → record { number = 0; used = n; written = after } ≡ readBackCall src used out
     readBack-zero f after a =
         ap (λ (i : ℕ). record { number = 0; used = i; written = after }) m
-        ∙ ap (λ (b : List ℕ). record { number = 0; used = length (encodeProgram k P); written = b }) a
+        ∙ ap (λ (b : List ℕ). record { number = 0; used = length (encodeProgram hd P); written = b }) a
         ∙ sym (readBack-fits h l out lo P e (omega (arith, m, f)))
 
 pub source-found : (o : Option Block) (found : Bool) → found ≡ not (isNone o) → found ≡ true → (P : Block) × (o ≡ some P)
@@ -107,9 +107,9 @@ source-found (some P) found e f = (P, refl)
 
 -- ROW 6
 
-six-first : {k : ℕ} {t : Term} {buf : List ℕ} {used : ℕ} → TermIn allVars k t buf used → length buf ≤ 16384 → (store : List ℕ) → (length store ≡ k → ⊥) → (more : List Row)
+six-first : {hd : Header} {t : Term} {buf : List ℕ} {used : ℕ} → TermIn allVars hd t buf used → length buf ≤ 16384 → (store : List ℕ) → (length store ≡ hd .k → ⊥) → (more : List Row)
     → firstRow (row 1 (badBuffer buf used) ∷ termRows buf used (row 6 (badStore buf used store) ∷ more)) ≡ 6
-six-first {k} {t} {buf} {used} h l store n more =
+six-first {hd} {t} {buf} {used} h l store n more =
     first-behind (checkTermRows buf used) (row 6 (badStore buf used store) ∷ more) (term-passes h l [] tt)
     ∙ first-applies 6 (badStore buf used store) more (rows-mean .six buf used store .1 (λ e. n (e ∙ term-k h)))
 
@@ -122,11 +122,11 @@ pub substitute-checked : (buf : List ℕ) (used n k : ℕ) (store : List ℕ) �
     → refusal n buf ≡ substituteCall buf used store
 substitute-checked buf used n k store e h = substitute-row buf used store n (term-refuses buf used n k e h (badBuffer buf used) refl _) h
 
-module _ {k : ℕ} {t : Term} {buf : List ℕ} {used : ℕ} (h : TermIn allVars k t buf used) (l : length buf ≤ 16384) (store : List ℕ) where
-  pub substitute-six : (length store ≡ k → ⊥) → refusal 6 buf ≡ substituteCall buf used store
+module _ {hd : Header} {t : Term} {buf : List ℕ} {used : ℕ} (h : TermIn allVars hd t buf used) (l : length buf ≤ 16384) (store : List ℕ) where
+  pub substitute-six : (length store ≡ hd .k → ⊥) → refusal 6 buf ≡ substituteCall buf used store
   substitute-six n = substitute-row buf used store 6 (six-first h l store n []) (λ z. omega (arith, z))
 
-  pub substitute-zero : length store ≡ k → (after : List ℕ) → after ≡ padded (length buf) (encodeTerm k (substitute (fromStore store) t))
+  pub substitute-zero : length store ≡ hd .k → (after : List ℕ) → after ≡ padded (length buf) (encodeTerm hd (substitute (fromStore store) t))
       → record { number = 0; used = used; written = after } ≡ substituteCall buf used store
   substitute-zero e after a = ap (λ (b : List ℕ). record { number = 0; used = used; written = b }) a ∙ sym (substitute-gives h l store e)
 
@@ -148,30 +148,30 @@ pub result-checked : (buf : List ℕ) (used n k : ℕ) (store : List ℕ) → ch
 result-checked buf used n k store e h = result-row buf used store n (term-refuses buf used n k e h (badBuffer buf used) refl _) h
 
 -- a finished term without free variables is a tuple of numerals
-pub numerals-of : {k : ℕ} {t : Term} {buf : List ℕ} {used : ℕ} → TermIn allVars k t buf used → closed t ≡ true → finishedTerm t ≡ true
-    → (vs : List ℕ) × TermIn noVars k (tuple (map num vs)) buf used
+pub numerals-of : {hd : Header} {t : Term} {buf : List ℕ} {used : ℕ} → TermIn allVars hd t buf used → closed t ≡ true → finishedTerm t ≡ true
+    → (vs : List ℕ) × TermIn noVars hd (tuple (map num vs)) buf used
 unfolding closed closedIn
-numerals-of {k} {t} {buf} {used} h c f =
+numerals-of {hd} {t} {buf} {used} h c f =
     let o = finished-iff t .0 f in
     let all : closed (tuple (o .0)) ≡ true = ap closed (sym (o .1)) ∙ c in (
       map valueOf (o .0),
-      subst (λ u. TermIn noVars k u buf used) (o .1 ∙ ap tuple (closed-nums (o .0) all)) (closed-term h c),
+      subst (λ u. TermIn noVars hd u buf used) (o .1 ∙ ap tuple (closed-nums (o .0) all)) (closed-term h c),
     )
 
-module _ {k : ℕ} {t : Term} {buf : List ℕ} {used : ℕ} (h : TermIn allVars k t buf used) (l : length buf ≤ 16384) (store : List ℕ) where
-  pub result-six : (length store ≡ k → ⊥) → Results buf used store 6 store
+module _ {hd : Header} {t : Term} {buf : List ℕ} {used : ℕ} (h : TermIn allVars hd t buf used) (l : length buf ≤ 16384) (store : List ℕ) where
+  pub result-six : (length store ≡ hd .k → ⊥) → Results buf used store 6 store
   result-six n = result-row buf used store 6 (six-first h l store n _) (λ z. omega (arith, z))
 
-  pub result-seven : length store ≡ k → closed t ≡ false → Results buf used store 7 store
+  pub result-seven : length store ≡ hd .k → closed t ≡ false → Results buf used store 7 store
   result-seven e c = result-row buf used store 7 (result-first h l store e ∙ first-applies 7 (not (closed t)) _ (ap not c)) (λ z. omega (arith, z))
 
-  pub result-eight : length store ≡ k → closed t ≡ true → finishedTerm t ≡ false → Results buf used store 8 store
+  pub result-eight : length store ≡ hd .k → closed t ≡ true → finishedTerm t ≡ false → Results buf used store 8 store
   result-eight e c f =
       result-row buf used store 8
       (result-first h l store e ∙ first-skips 7 (not (closed t)) _ (not-intro c) ∙ first-applies 8 (not (finishedTerm t)) [] (ap not f))
       (λ z. omega (arith, z))
 
-pub result-zero : {k : ℕ} {vs buf : List ℕ} {used : ℕ} (h : TermIn noVars k (tuple (map num vs)) buf used) → length buf ≤ 16384 → (store : List ℕ) → length store ≡ k
+pub result-zero : {hd : Header} {vs buf : List ℕ} {used : ℕ} (h : TermIn noVars hd (tuple (map num vs)) buf used) → length buf ≤ 16384 → (store : List ℕ) → length store ≡ hd .k
     → (after : List ℕ) → after ≡ vs → Results buf used store 0 after
-result-zero {k} {vs} {buf} {used} h l store e after a =
+result-zero {hd} {vs} {buf} {used} h l store e after a =
     results-are buf used store 0 after (result-gives h l store e ∙ ap (λ (s : List ℕ). record { number = 0; store = s }) (sym a))

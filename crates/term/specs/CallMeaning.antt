@@ -7,6 +7,7 @@ use mathlib.Core.List.{List, map}
 use mathlib.Core.Option.{some}
 use lib.ListN.{length, take}
 use Rattle.record.specs.Answers.{padded}
+use Rattle.record.specs.declared.Header.{Header}
 use Rattle.record.specs.Header.{encodeProgram, encodeTerm}
 use Rattle.record.specs.Holding.{ProgramIn, TermIn}
 use Rattle.record.specs.Rows.{kOf, termOf}
@@ -24,32 +25,32 @@ pub record CallsMean : Type 0 where
   -- ROW 10: the answer is longer than the output buffer
   pub ten : (out answer : List ℕ) → (tooShort out answer ≡ true) ↔ (length out < length answer)
   -- TRANSLATE: the record of the translation, or 10 where it does not fit
-  pub translates : (k : ℕ) (P : Block) (src : List ℕ) (used : ℕ) (out : List ℕ) → ProgramIn k P src used → length src ≤ 16384 → length out ≤ 16384
-      → length (encodeTerm k (translate k P)) ≤ length out
-      → translateCall src used out ≡ record { number = 0; used = length (encodeTerm k (translate k P)); written = padded (length out) (encodeTerm k (translate k P)) }
-  pub translatesNot : (k : ℕ) (P : Block) (src : List ℕ) (used : ℕ) (out : List ℕ) → ProgramIn k P src used → length src ≤ 16384 → length out ≤ 16384
-      → length out < length (encodeTerm k (translate k P)) → (translateCall src used out) .number ≡ 10
+  pub translates : (h : Header) (P : Block) (src : List ℕ) (used : ℕ) (out : List ℕ) → ProgramIn h P src used → length src ≤ 16384 → length out ≤ 16384
+      → length (encodeTerm h (translate (h .k) P)) ≤ length out
+      → translateCall src used out ≡ record { number = 0; used = length (encodeTerm h (translate (h .k) P)); written = padded (length out) (encodeTerm h (translate (h .k) P)) }
+  pub translatesNot : (h : Header) (P : Block) (src : List ℕ) (used : ℕ) (out : List ℕ) → ProgramIn h P src used → length src ≤ 16384 → length out ≤ 16384
+      → length out < length (encodeTerm h (translate (h .k) P)) → (translateCall src used out) .number ≡ 10
   -- READ BACK: 0 or 10 exactly where some program translates to the term; with room enough that program, and else 10
-  pub readsBack : (k : ℕ) (t : Term) (src : List ℕ) (used : ℕ) (out : List ℕ) → TermIn allVars k t src used → length src ≤ 16384 → length out ≤ 16384
-      → (((readBackCall src used out) .number ≡ 0) ⊎ ((readBackCall src used out) .number ≡ 10)) ↔ ((P : Block) × (translate k P ≡ t))
-  pub readsBackNot : (k : ℕ) (t : Term) (src : List ℕ) (used : ℕ) (out : List ℕ) → TermIn allVars k t src used → length src ≤ 16384 → length out ≤ 16384
-      → ((readBackCall src used out) .number ≡ 9) ↔ ((P : Block) → translate k P ≡ t → ⊥)
-  pub givesBack : (k : ℕ) (P : Block) (src : List ℕ) (used : ℕ) (out : List ℕ) → TermIn allVars k (translate k P) src used → length src ≤ 16384 → length out ≤ 16384
-      → length (encodeProgram k P) ≤ length out
-      → readBackCall src used out ≡ record { number = 0; used = length (encodeProgram k P); written = padded (length out) (encodeProgram k P) }
-  pub givesBackNot : (k : ℕ) (P : Block) (src : List ℕ) (used : ℕ) (out : List ℕ) → TermIn allVars k (translate k P) src used → length src ≤ 16384 → length out ≤ 16384
-      → length out < length (encodeProgram k P) → (readBackCall src used out) .number ≡ 10
+  pub readsBack : (h : Header) (t : Term) (src : List ℕ) (used : ℕ) (out : List ℕ) → TermIn allVars h t src used → length src ≤ 16384 → length out ≤ 16384
+      → (((readBackCall src used out) .number ≡ 0) ⊎ ((readBackCall src used out) .number ≡ 10)) ↔ ((P : Block) × (translate (h .k) P ≡ t))
+  pub readsBackNot : (h : Header) (t : Term) (src : List ℕ) (used : ℕ) (out : List ℕ) → TermIn allVars h t src used → length src ≤ 16384 → length out ≤ 16384
+      → ((readBackCall src used out) .number ≡ 9) ↔ ((P : Block) → translate (h .k) P ≡ t → ⊥)
+  pub givesBack : (h : Header) (P : Block) (src : List ℕ) (used : ℕ) (out : List ℕ) → TermIn allVars h (translate (h .k) P) src used → length src ≤ 16384 → length out ≤ 16384
+      → length (encodeProgram h P) ≤ length out
+      → readBackCall src used out ≡ record { number = 0; used = length (encodeProgram h P); written = padded (length out) (encodeProgram h P) }
+  pub givesBackNot : (h : Header) (P : Block) (src : List ℕ) (used : ℕ) (out : List ℕ) → TermIn allVars h (translate (h .k) P) src used → length src ≤ 16384 → length out ≤ 16384
+      → length out < length (encodeProgram h P) → (readBackCall src used out) .number ≡ 10
   -- translated and read back: the same bytes
-  pub roundTrip : (k : ℕ) (P : Block) (src : List ℕ) (used : ℕ) (out back : List ℕ) → ProgramIn k P src used → length src ≤ 16384 → length out ≤ 16384
+  pub roundTrip : (h : Header) (P : Block) (src : List ℕ) (used : ℕ) (out back : List ℕ) → ProgramIn h P src used → length src ≤ 16384 → length out ≤ 16384
       → length back ≤ 16384 → used ≤ length back → (translateCall src used out) .number ≡ 0
       → readBackCall ((translateCall src used out) .written) ((translateCall src used out) .used) back ≡ record { number = 0; used = used; written = padded (length back) (take used src) }
   -- SUBSTITUTE: the term with the store substituted; no length changes
-  pub substitutes : (k : ℕ) (t : Term) (buf : List ℕ) (used : ℕ) (store : List ℕ) → TermIn allVars k t buf used → length buf ≤ 16384 → length store ≡ k
-      → substituteCall buf used store ≡ record { number = 0; used = used; written = padded (length buf) (encodeTerm k (substitute (fromStore store) t)) }
+  pub substitutes : (h : Header) (t : Term) (buf : List ℕ) (used : ℕ) (store : List ℕ) → TermIn allVars h t buf used → length buf ≤ 16384 → length store ≡ h .k
+      → substituteCall buf used store ≡ record { number = 0; used = used; written = padded (length buf) (encodeTerm h (substitute (fromStore store) t)) }
   -- RESULT: the numerals of a finished closed term; 7 of a term with a free variable, 8 of a closed one that is not finished
-  pub results : (k : ℕ) (values buf : List ℕ) (used : ℕ) (store : List ℕ) → TermIn noVars k (tuple (map num values)) buf used → length buf ≤ 16384 → length store ≡ k
+  pub results : (h : Header) (values buf : List ℕ) (used : ℕ) (store : List ℕ) → TermIn noVars h (tuple (map num values)) buf used → length buf ≤ 16384 → length store ≡ h .k
       → resultCall buf used store ≡ record { number = 0; store = values }
-  pub resultsOpen : (k : ℕ) (t : Term) (buf : List ℕ) (used : ℕ) (store : List ℕ) → TermIn allVars k t buf used → length buf ≤ 16384 → length store ≡ k
+  pub resultsOpen : (h : Header) (t : Term) (buf : List ℕ) (used : ℕ) (store : List ℕ) → TermIn allVars h t buf used → length buf ≤ 16384 → length store ≡ h .k
       → ((x : ℕ) × Free x t) → (resultCall buf used store) .number ≡ 7
-  pub resultsUnfinished : (k : ℕ) (t : Term) (buf : List ℕ) (used : ℕ) (store : List ℕ) → TermIn noVars k t buf used → length buf ≤ 16384 → length store ≡ k
+  pub resultsUnfinished : (h : Header) (t : Term) (buf : List ℕ) (used : ℕ) (store : List ℕ) → TermIn noVars h t buf used → length buf ≤ 16384 → length store ≡ h .k
       → (((l : List Atom) × (t ≡ tuple l)) → ⊥) → (resultCall buf used store) .number ≡ 8

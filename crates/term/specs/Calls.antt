@@ -7,7 +7,7 @@ use lib.Dec.{ltb}
 use lib.ListN.{length}
 use Rattle.record.specs.Answers.{Stored, Wrote, storedBy, wroteBy}
 use Rattle.record.specs.Header.{encodeProgram, encodeTerm}
-use Rattle.record.specs.Rows.{Row, badBuffer, badStore, firstRow, isNone, kOf, openTerm, orElse, programOf, programRows, row, termRows, theTermOf, tooLong, unfinished}
+use Rattle.record.specs.Rows.{Row, badBuffer, badStore, firstRow, headerOf, isNone, kOf, openTerm, orElse, programOf, programRows, row, termRows, theTermOf, tooLong, unfinished}
 use Rattle.rules.specs.ReadBack.{readBack}
 use Rattle.rules.specs.Reduction.{valueOf}
 use Rattle.rules.specs.Substitution.{fromStore, substitute}
@@ -22,7 +22,7 @@ tooShort out answer = ltb (length out) (length answer)
 
 -- The record that answers.
 abbrev pub translated : List ℕ → ℕ → List ℕ
-translated src used = encodeTerm (kOf src used) (translate (kOf src used) (programOf src used))
+translated src used = encodeTerm (headerOf src used) (translate (kOf src used) (programOf src used))
 
 -- The rows of the call, in the order of 01's table.
 abbrev pub translateRows : List ℕ → ℕ → List ℕ → List Row
@@ -44,7 +44,7 @@ noSource src used = isNone (sourceOf src used)
 
 -- The record that answers where row 9 does not apply: that program's.
 abbrev pub sourceBytes : List ℕ → ℕ → List ℕ
-sourceBytes src used = encodeProgram (kOf src used) (orElse empty (sourceOf src used))
+sourceBytes src used = encodeProgram (headerOf src used) (orElse empty (sourceOf src used))
 
 -- The rows of the call, in the order of 01's table.
 abbrev pub readBackRows : List ℕ → ℕ → List ℕ → List Row
@@ -59,7 +59,7 @@ readBackCall src used out = wroteBy (firstRow (readBackRows src used out)) (sour
 
 -- The record that answers: the term's, its free variables replaced by the store's numerals.
 abbrev pub substituted : List ℕ → ℕ → List ℕ → List ℕ
-substituted buf used store = encodeTerm (kOf buf used) (substitute (fromStore store) (theTermOf buf used))
+substituted buf used store = encodeTerm (headerOf buf used) (substitute (fromStore store) (theTermOf buf used))
 
 -- The rows of the call, in the order of 01's table.
 abbrev pub substituteRows : List ℕ → ℕ → List ℕ → List Row

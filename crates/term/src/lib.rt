@@ -5,9 +5,6 @@ pub mod result;
 pub mod substitute;
 pub mod translate;
 
-// The longest buffer that may be lent.
-pub const LONGEST: usize = 16384;
-
 // The answer of a call that writes a buffer: the number of the refusal and 0, or 0 and the new used length.
 #[repr(C)]
 pub struct Written {

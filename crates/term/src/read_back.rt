@@ -1,9 +1,10 @@
 // The call read back: the program of a term that is a translation, into another buffer (01 "Translation and read-back").
-use super::LONGEST;
 use super::Written;
+use checker::too_long;
 use readback::source_size;
 use readback::write_source;
 use recognition::is_translation;
+use record::Header;
 use term_checker::check_term;
 ghost use mathlib.Core.Path.{_≡_};
 ghost use Prim.Native.Nat.{_≤_};
@@ -15,21 +16,21 @@ ghost use Rattle.term.specs.Answer.{asWrote};
 ghost use Rattle.term.specs.Calls.{readBackCall};
 
 // The whole term is looked at and measured first, so that a refusal leaves the output as it came.
-fn read_back_checked(src: &[u8], used: usize, k: u32, out: &mut [u8]) -> Written
-    requires { ⌜ ((t : Term) × TermIn allVars k t (now src) used) × (length (now src) ≤ 16384) × (length (now out) ≤ 16384) ⌝ }
+fn read_back_checked(src: &[u8], used: usize, h: Header, out: &mut [u8]) -> Written
+    requires { ⌜ ((t : Term) × TermIn allVars h t (now src) used) × (length (now src) ≤ 16384) × (length (now out) ≤ 16384) ⌝ }
     ensures { λ r. ⌜ asWrote r (now (out .exit)) ≡ readBackCall (now (src .entry)) used (now (out .entry)) ⌝ }
 {
-    if !is_translation(src, used, k) {
+    if !is_translation(src, used, h) {
         return Written { number: 9, used: 0 };
     }
-    let n = source_size(src, used, k);
+    let n = source_size(src, used, h);
     if out.len() < n {
         return Written {
             number: 10,
             used: 0,
         };
     }
-    write_source(src, used, k, out);
+    write_source(src, used, h, out);
     Written {
         number: 0,
         used: n as u32,
@@ -40,7 +41,7 @@ fn read_back_checked(src: &[u8], used: usize, k: u32, out: &mut [u8]) -> Written
 pub fn read_back(src: &[u8], used: usize, out: &mut [u8]) -> Written
     ensures { λ r. ⌜ asWrote r (now (out .exit)) ≡ readBackCall (now (src .entry)) used (now (out .entry)) ⌝ }
 {
-    if LONGEST < out.len() {
+    if too_long(out.len()) {
         return Written { number: 1, used: 0 };
     }
     let checked = check_term(src, used);
@@ -50,5 +51,6 @@ pub fn read_back(src: &[u8], used: usize, out: &mut [u8]) -> Written
             used: 0,
         };
     }
-    read_back_checked(src, used, checked.k, out)
+    let h = record::read_header(src);
+    read_back_checked(src, used, h, out)
 }

@@ -2,6 +2,7 @@
 use filling::closed::is_closed;
 use numerals::copy_numerals;
 use numerals::is_finished;
+use record::Header;
 use term_checker::check_term;
 ghost use mathlib.Core.Path.{_≡_};
 ghost use Prim.Native.Nat.{_≤_};
@@ -11,20 +12,20 @@ ghost use Rattle.rules.specs.Syntax.{Term};
 ghost use Rattle.record.specs.Holding.{TermIn};
 ghost use Rattle.term.specs.Calls.{resultCall};
 
-fn result_checked(buf: &[u8], used: usize, k: u32, store: &mut [u32]) -> u32
-    requires { ⌜ ((t : Term) × TermIn allVars k t (now buf) used) × (length (now buf) ≤ 16384) ⌝ }
+fn result_checked(buf: &[u8], used: usize, h: Header, store: &mut [u32]) -> u32
+    requires { ⌜ ((t : Term) × TermIn allVars h t (now buf) used) × (length (now buf) ≤ 16384) ⌝ }
     ensures { λ r. ⌜ (r ≡ (resultCall (now (buf .entry)) used (now (store .entry))) .number) × (now (store .exit) ≡ (resultCall (now (buf .entry)) used (now (store .entry))) .store) ⌝ }
 {
-    if store.len() != k as usize {
+    if store.len() != h.k as usize {
         return 6;
     }
-    if !is_closed(buf, used, k) {
+    if !is_closed(buf, used, h) {
         return 7;
     }
-    if !is_finished(buf, used) {
+    if !is_finished(buf, used, h) {
         return 8;
     }
-    copy_numerals(buf, used, k, store);
+    copy_numerals(buf, used, h, store);
     0
 }
 
@@ -35,5 +36,6 @@ pub fn result(buf: &[u8], used: usize, store: &mut [u32]) -> u32
     if checked.number != 0 {
         return checked.number;
     }
-    result_checked(buf, used, checked.k, store)
+    let h = record::read_header(buf);
+    result_checked(buf, used, h, store)
 }

@@ -1,6 +1,7 @@
 // The call substitute: a store's values for the free variables of a term, in place (01 "Filling").
 use super::Written;
 use filling::substitution::substitute_record;
+use record::Header;
 use term_checker::check_term;
 ghost use mathlib.Core.Path.{_≡_};
 ghost use Prim.Native.Nat.{_≤_};
@@ -12,14 +13,14 @@ ghost use Rattle.term.specs.Answer.{asWrote};
 ghost use Rattle.term.specs.Calls.{substituteCall};
 
 // The used length stays: a numeral is as long as a variable.
-fn substitute_checked(buf: &mut [u8], used: usize, k: u32, store: &[u32]) -> Written
-    requires { ⌜ ((t : Term) × TermIn allVars k t (now buf) used) × (length (now buf) ≤ 16384) ⌝ }
+fn substitute_checked(buf: &mut [u8], used: usize, h: Header, store: &[u32]) -> Written
+    requires { ⌜ ((t : Term) × TermIn allVars h t (now buf) used) × (length (now buf) ≤ 16384) ⌝ }
     ensures { λ r. ⌜ asWrote r (now (buf .exit)) ≡ substituteCall (now (buf .entry)) used (now (store .entry)) ⌝ }
 {
-    if store.len() != k as usize {
+    if store.len() != h.k as usize {
         return Written { number: 6, used: 0 };
     }
-    substitute_record(buf, used, k, store);
+    substitute_record(buf, used, h, store);
     Written {
         number: 0,
         used: used as u32,
@@ -36,5 +37,6 @@ pub fn substitute(buf: &mut [u8], used: usize, store: &[u32]) -> Written
             used: 0,
         };
     }
-    substitute_checked(buf, used, checked.k, store)
+    let h = record::read_header(buf);
+    substitute_checked(buf, used, h, store)
 }

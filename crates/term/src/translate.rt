@@ -1,7 +1,8 @@
 // The call translate: a program's term into another buffer (01 "Translation and read-back").
-use super::LONGEST;
 use super::Written;
+use checker::too_long;
 use program_checker::check_program;
+use record::Header;
 use translator::translation_size;
 use translator::write_translation;
 ghost use mathlib.Core.Path.{_≡_};
@@ -13,18 +14,18 @@ ghost use Rattle.term.specs.Answer.{asWrote};
 ghost use Rattle.term.specs.Calls.{translateCall};
 
 // The term is measured first, so that a refusal leaves the output as it came.
-fn translate_checked(src: &[u8], used: usize, k: u32, out: &mut [u8]) -> Written
-    requires { ⌜ ((P : Block) × ProgramIn k P (now src) used) × (length (now src) ≤ 16384) × (length (now out) ≤ 16384) ⌝ }
+fn translate_checked(src: &[u8], used: usize, h: Header, out: &mut [u8]) -> Written
+    requires { ⌜ ((P : Block) × ProgramIn h P (now src) used) × (length (now src) ≤ 16384) × (length (now out) ≤ 16384) ⌝ }
     ensures { λ r. ⌜ asWrote r (now (out .exit)) ≡ translateCall (now (src .entry)) used (now (out .entry)) ⌝ }
 {
-    let n = translation_size(src, used, k);
+    let n = translation_size(src, used, h);
     if out.len() < n {
         return Written {
             number: 10,
             used: 0,
         };
     }
-    write_translation(src, used, k, out);
+    write_translation(src, used, h, out);
     Written {
         number: 0,
         used: n as u32,
@@ -35,7 +36,7 @@ fn translate_checked(src: &[u8], used: usize, k: u32, out: &mut [u8]) -> Written
 pub fn translate(src: &[u8], used: usize, out: &mut [u8]) -> Written
     ensures { λ r. ⌜ asWrote r (now (out .exit)) ≡ translateCall (now (src .entry)) used (now (out .entry)) ⌝ }
 {
-    if LONGEST < out.len() {
+    if too_long(out.len()) {
         return Written { number: 1, used: 0 };
     }
     let checked = check_program(src, used);
@@ -45,5 +46,6 @@ pub fn translate(src: &[u8], used: usize, out: &mut [u8]) -> Written
             used: 0,
         };
     }
-    translate_checked(src, used, checked.k, out)
+    let h = record::read_header(src);
+    translate_checked(src, used, h, out)
 }

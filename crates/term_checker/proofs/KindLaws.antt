@@ -16,7 +16,7 @@ module _ (l : List ℕ) where
   unfolding termKind
   termKind-class {kind} e c q = rw (← q, e) refl
 
-  -- a term's kind is the record's, and a record's kind from 32 to 40 is a term's
+  -- a term's kind is the record's, and a record's kind from 32 to 39 is a term's
   pub termKind-record : (n : ℕ) → 1 ≤ n → termKind l ≡ n → recordKind l ≡ n
   unfolding ofTerm
   termKind-record n h e = go (classOf (recordKind l)) (sym (termKind-class refl _ refl))
@@ -27,6 +27,6 @@ module _ (l : List ℕ) where
       go Expression q = absurd (let z : 0 ≡ n = sym q ∙ e in omega arith)
       go Malformed q = absurd (let z : 0 ≡ n = sym q ∙ e in omega arith)
 
-  pub record-termKind : (n : ℕ) → 32 ≤ n → n ≤ 40 → recordKind l ≡ n → termKind l ≡ n
+  pub record-termKind : (n : ℕ) → 32 ≤ n → n ≤ 39 → recordKind l ≡ n → termKind l ≡ n
   unfolding ofTerm
-  record-termKind n a b e = sym (termKind-class (sym e) Term (class-term n a b))
+  record-termKind n a b e = sym (termKind-class (sym e) Term (class-term n a (omega arith)))

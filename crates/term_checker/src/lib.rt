@@ -1,11 +1,13 @@
 // The check of a term. Every function judges all of the slice that it is lent, so that what follows a part is never read as
 // a piece of it.
+ghost use mathlib.Core.Bool.{false};
 ghost use mathlib.Core.Path.{_≡_};
 ghost use Rattle.rules.specs.Scope.{atomInRange, atomsInRange, simpleInRange};
 ghost use Rattle.record.specs.Alone.{recordKind, onlySimple, onlyTuple};
 ghost use Rattle.record.specs.Header.{termIn};
 ghost use Rattle.record.specs.Term.{onlyAtom, decodeAtoms};
 ghost use Rattle.record.specs.Answers.{checkTerm};
+ghost use Rattle.record.specs.Rows.{badBuffer};
 ghost use Rattle.checker.specs.Answer.{asChecked};
 ghost use Rattle.checker.specs.Verdict.{verdict};
 ghost use Rattle.term_checker.specs.TermKind.{termKind};
@@ -15,10 +17,12 @@ use buffer::get_u32;
 use checker::Checked;
 use checker::Verdict;
 use checker::answer;
+use checker::bad_buffer;
 use checker::check_header;
 use checker::check_variable;
 use checker::number_of;
 use checker::worst;
+use record::Sort;
 use record::kind::LET_ALL;
 use record::kind::LET_ONE;
 use record::kind::NUMERAL;
@@ -26,7 +30,6 @@ use record::kind::PRED;
 use record::kind::REC;
 use record::kind::REFERENCE;
 use record::kind::SUCC;
-use record::kind::TERM;
 use record::kind::TUPLE;
 
 // What a term's head leaves to check.
@@ -201,16 +204,25 @@ fn check_term_contents(s: &[u8], k: u32) -> Verdict
     }
 }
 
-pub fn check_term(buf: &[u8], used: usize) -> Checked
+// Rows 2 to 5, of a buffer that row 1 lets through.
+pub fn check_record(buf: &[u8], used: usize) -> Checked
+    requires { ⌜ badBuffer (now buf) used ≡ false ⌝ }
     ensures { λ r. ⌜ asChecked r ≡ checkTerm (now (buf .entry)) used ⌝ }
 {
-    let number = check_header(buf, used, TERM);
+    let number = check_header(buf, used, Sort::Term);
     if number != 0 {
         return answer(number, 0);
     }
-    let k = get_u32(buf, 4);
-    answer(
-        number_of(check_term_contents(&buf[record::HEADER_LENGTH..used], k)),
-        k,
-    )
+    let h = record::read_header(buf);
+    let start = h.contents_at();
+    answer(number_of(check_term_contents(&buf[start..used], h.k)), h.k)
+}
+
+pub fn check_term(buf: &[u8], used: usize) -> Checked
+    ensures { λ r. ⌜ asChecked r ≡ checkTerm (now (buf .entry)) used ⌝ }
+{
+    if bad_buffer(buf, used) {
+        return answer(1, 0);
+    }
+    check_record(buf, used)
 }

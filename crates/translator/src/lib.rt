@@ -14,9 +14,11 @@ ghost use Rattle.translator.specs.RowTranslation.{RowAt, allBytes, rowBy
 ghost use Rattle.translator.specs.TranslationHeads.{leadOf, letAllHead, letOneHead, letOneSize, u16At};
 ghost use Rattle.translator.specs.TranslationTasks.{Opens, PartsOf, TaskIn, cutAt, pastHeads};
 use edit::put_head;
+use edit::put_header;
 use edit::put_lead;
 use edit::put_leaf;
-use record::HEADER_LENGTH;
+use record::Header;
+use record::Sort;
 use record::kind::ASSIGNMENT;
 use record::kind::LET_ALL;
 use record::kind::LET_ONE;
@@ -24,7 +26,6 @@ use record::kind::LOOP;
 use record::kind::PLUS_ONE;
 use record::kind::REC;
 use record::kind::REFERENCE;
-use record::kind::TERM;
 use record::kind::TUPLE;
 
 // A row of commands, from `from` up to `to` in the source, and the place of its translation, from `start` up to `stop` in
@@ -85,11 +86,12 @@ fn row_size(src: &[u8], from: usize, to: usize, k: u32) -> usize
 }
 
 // A program that fits a buffer can have a term of 34 times its length: it is measured before a byte is written.
-pub fn translation_size(src: &[u8], used: usize, k: u32) -> usize
-    requires { ⌜ ((P : Block) × ProgramIn k P (now src) used) × (length (now src) ≤ 16384) ⌝ }
-    ensures { λ r. ⌜ ((P : Block) → ProgramIn k P (now (src .entry)) used → r ≡ length (encodeTerm k (translate k P))) ⌝ }
+pub fn translation_size(src: &[u8], used: usize, h: Header) -> usize
+    requires { ⌜ ((P : Block) × ProgramIn h P (now src) used) × (length (now src) ≤ 16384) ⌝ }
+    ensures { λ r. ⌜ ((P : Block) → ProgramIn h P (now (src .entry)) used → r ≡ length (encodeTerm h (translate (h .k) P))) ⌝ }
 {
-    HEADER_LENGTH + row_size(src, HEADER_LENGTH + 4, used, k)
+    let start = h.contents_at();
+    start + row_size(src, start + 4, used, h.k)
 }
 
 fn write_tuple(out: &mut [u8], o: usize, k: u32)
@@ -232,20 +234,20 @@ fn write_row(src: &[u8], task: Task, k: u32, out: &mut [u8])
     write_tuple(out, left.start, k);
 }
 
-pub fn write_translation(src: &[u8], used: usize, k: u32, out: &mut [u8])
-    requires { ⌜ ((P : Block) × ProgramIn k P (now src) used × (length (encodeTerm k (translate k P)) ≤ length (now out))) × (length (now src) ≤ 16384) ⌝ }
-    ensures { λ _. ⌜ ((P : Block) → ProgramIn k P (now (src .entry)) used → now (out .exit) ≡ padded (length (now (out .entry))) (encodeTerm k (translate k P))) ⌝ }
+pub fn write_translation(src: &[u8], used: usize, h: Header, out: &mut [u8])
+    requires { ⌜ ((P : Block) × ProgramIn h P (now src) used × (length (encodeTerm h (translate (h .k) P)) ≤ length (now out))) × (length (now src) ≤ 16384) ⌝ }
+    ensures { λ _. ⌜ ((P : Block) → ProgramIn h P (now (src .entry)) used → now (out .exit) ≡ padded (length (now (out .entry))) (encodeTerm h (translate (h .k) P))) ⌝ }
 {
-    let total = translation_size(src, used, k);
-    put_head(out, 0, TERM, total);
-    buffer::put_u32(out, 4, k);
+    let total = translation_size(src, used, h);
+    let start = h.contents_at();
+    put_header(out, Sort::Term, h, total);
     let whole = Task {
-        from: HEADER_LENGTH + 4,
+        from: start + 4,
         to: used,
-        start: HEADER_LENGTH,
+        start: start,
         stop: total,
     };
-    write_row(src, whole, k, out);
+    write_row(src, whole, h.k, out);
     let room = out.len();
     buffer::zero(out, total, room - total);
 }

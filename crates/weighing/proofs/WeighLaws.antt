@@ -1,5 +1,5 @@
 -- Laws of weighing.
-use Prim.Native.Nat.{_-_, _/_, suc, zero, ℕ}
+use Prim.Native.Nat.{_+_, _-_, _/_, suc, zero, ℕ}
 use mathlib.Core.Path.{ap, refl, subst, sym, _∙_, _≡_}
 use mathlib.Core.Bool.{Bool, false, not, true}
 use mathlib.Core.List.{List, [], _∷_}
@@ -9,12 +9,11 @@ use Rattle.record.specs.Answers.{Stored}
 use Rattle.record.specs.Rows.{firstRow}
 use Rattle.rules.specs.Scope.{Within, inRange}
 use Rattle.rules.specs.Sound.{SmallValues}
-use Rattle.rules.specs.Store.{fitsWord}
+use Rattle.rules.specs.Store.{Limit}
 use Rattle.record.proofs.AnswerLaws.{stored-accepted, stored-number, stored-refused}
 use Rattle.record.proofs.RowLaws.{first-applies, none-first, not-intro}
 use Rattle.record.proofs.RowMeaningLaws.{not-iff}
 use Rattle.rules.proofs.ScopeLaws.{inRange-within, within-inRange}
-use Rattle.rules.proofs.StoreLaws.{below-fitsWord, fitsWord-below, word-limit}
 use Rattle.rules.proofs.Tests.{true-false}
 use Rattle.weighing.specs.Weigh.{countOf, netLoad, weighCall, weighRows, weighed}
 use Rattle.weighing.specs.WeighMeaning.{WeighMeans}
@@ -66,9 +65,15 @@ weigh-by P gross tare store yes-case no-case = go (inRange 16 (length store)) re
     go true e = let w = inRange-within 16 (length store) e in subst P (sym (weigh-gives gross tare store w)) (yes-case w)
     go false e = subst P (sym (weigh-not gross tare store (λ w. true-false (sym (within-inRange 16 (length store) w) ∙ e)))) no-case
 
-zeros-small : (n : ℕ) → SmallValues fitsWord (replicate n 0)
-zeros-small zero = tt
-zeros-small (suc n) = (word-limit .zeroPasses, zeros-small n)
+-- what is below a value that passes, and zeros
+module _ (ok : ℕ → Bool) (l : Limit ok) where
+  below-passes : (d n m : ℕ) → d + n ≡ m → ok m ≡ true → ok n ≡ true
+  below-passes zero n m e h = let q : n ≡ m = omega arith in ap ok q ∙ h
+  below-passes (suc d) n m e h = let q : suc (d + n) ≡ m = omega arith in below-passes d n (d + n) refl (l .belowPasses (d + n) (ap ok q ∙ h))
+
+  zeros-small : (n : ℕ) → SmallValues ok (replicate n 0)
+  zeros-small zero = tt
+  zeros-small (suc n) = (l .zeroPasses, zeros-small n)
 
 pub weigh-means : WeighMeans
 unfolding netLoad countOf
@@ -80,6 +85,6 @@ weigh-means = record {
   weighsNot = weigh-not;
   sameLength = λ gross tare store. weigh-by (λ s. length (s .store) ≡ length store) gross tare store
       (λ w. ap suc (length-replicate {A = ℕ} (length store - 1) 0) ∙ omega (arith, w .0)) refl;
-  values = λ gross tare store hg hs. weigh-by (λ s. SmallValues fitsWord (s .store)) gross tare store
-      (λ w. (below-fitsWord ((gross - tare) / 20) (omega (arith, fitsWord-below gross hg)), zeros-small (length store - 1))) hs;
+  values = λ ok l gross tare store hg hs. weigh-by (λ s. SmallValues ok (s .store)) gross tare store
+      (λ w. (below-passes ok l (gross - (gross - tare) / 20) ((gross - tare) / 20) gross (omega arith) hg, zeros-small ok l (length store - 1))) hs;
 }

@@ -1,12 +1,12 @@
 -- WHAT WEIGHING ANSWERS (demand 2), in plain facts.
 use Prim.Native.Nat.{_*_, _+_, _-_, _<_, ℕ, _≤_}
 use mathlib.Core.Path.{_≡_}
-use mathlib.Core.Bool.{true}
+use mathlib.Core.Bool.{Bool, true}
 use mathlib.Core.List.{List, _∷_}
 use lib.ListN.{length, replicate}
 use Rattle.rules.specs.Scope.{Within}
 use Rattle.rules.specs.Sound.{SmallValues}
-use Rattle.rules.specs.Store.{fitsWord}
+use Rattle.rules.specs.Store.{Limit}
 use Rattle.weighing.specs.Weigh.{countOf, netLoad, weighCall}
 
 -- What variable 1 gets, and what the call answers of every gross, tare and store.
@@ -20,6 +20,6 @@ pub record WeighMeans : Type 0 where
   pub weighs : (gross tare : ℕ) (store : List ℕ) → Within 16 (length store)
       → weighCall gross tare store ≡ record { number = 0; store = countOf (netLoad gross tare) ∷ replicate (length store - 1) 0 }
   pub weighsNot : (gross tare : ℕ) (store : List ℕ) → (Within 16 (length store) → ⊥) → weighCall gross tare store ≡ record { number = 6; store = store }
-  -- the store has as many values as before, and its values are values
+  -- the store has as many values as before, and its values pass where gross and its values did
   pub sameLength : (gross tare : ℕ) (store : List ℕ) → length ((weighCall gross tare store) .store) ≡ length store
-  pub values : (gross tare : ℕ) (store : List ℕ) → fitsWord gross ≡ true → SmallValues fitsWord store → SmallValues fitsWord ((weighCall gross tare store) .store)
+  pub values : (ok : ℕ → Bool) → Limit ok → (gross tare : ℕ) (store : List ℕ) → ok gross ≡ true → SmallValues ok store → SmallValues ok ((weighCall gross tare store) .store)

@@ -6,7 +6,7 @@ use Prim.Native.Nat.{ℕ, suc}
 use native.Mathlib.Omega.{arith}
 use Rattle.plan.specs.Plan.{plan, planRaise}
 use Rattle.plan.specs.declared.Rule.the-variants.{Bind, Evaluate}
-use Rattle.rules.specs.Store.{fitsWord, lookup, minusOne}
+use Rattle.rules.specs.Store.{lookup, minusOne, upTo}
 use Rattle.place.proofs.ProgramBytesLaws.{exprKind-range}
 use Rattle.record.specs.Program.{exprKind, exprNumber}
 use Rattle.command.proofs.LookLaws.{assign-read, plan-dec, plan-inc, plan-lit, plan-var}
@@ -51,7 +51,7 @@ returns c =
     let v = assign-read x e r h in
     c .look-store .ensures
     ∙ ap₂ (λ (m n : ℕ). plan (c .before .before .before .before .before .before .before .args .levels) (c .before .before .before .before .before .before .before .args .at) Bind m n 0 16) (c .before .before .before .before .get-u32 .ensures ∙ v .variable) (c .before .before .get-u322 .ensures ∙ v .number)
-    ∙ sym (plan-lit (c .before .before .before .before .before .before .before .args .levels) (c .before .before .before .before .before .before .before .args .at) x e (c .before .before .before .before .before .before .before .args .store .now) (sym (v .kind) ∙ sym (c .before .before .before .get-u16 .ensures .0) ∙ c .before .if1 .taken))
+    ∙ sym (plan-lit (upTo (c .before .before .before .before .before .before .before .args .largest)) (c .before .before .before .before .before .before .before .args .levels) (c .before .before .before .before .before .before .before .args .at) x e (c .before .before .before .before .before .before .before .args .store .now) (sym (v .kind) ∙ sym (c .before .before .before .get-u16 .ensures .0) ∙ c .before .if1 .taken))
 
 value-of-requires : tie.Need-value-of-requires
 value-of-requires c κs =
@@ -69,7 +69,7 @@ returns-2 c =
     let v = assign-read x e r h in
     c .look-store2 .ensures
     ∙ ap₂ (λ (m n : ℕ). plan (c .before .before .before .before .before .before .before .before .before .args .levels) (c .before .before .before .before .before .before .before .before .before .args .at) Bind m n 0 16) (c .before .before .before .before .before .before .get-u32 .ensures ∙ v .variable) (c .before .before .value-of .ensures ∙ ap (lookup (c .before .before .before .before .before .before .before .before .before .args .store .now)) (c .before .before .before .before .get-u322 .ensures ∙ v .number))
-    ∙ sym (plan-var (c .before .before .before .before .before .before .before .before .before .args .levels) (c .before .before .before .before .before .before .before .before .before .args .at) x e (c .before .before .before .before .before .before .before .before .before .args .store .now) (sym (v .kind) ∙ sym (c .before .before .before .before .before .get-u16 .ensures .0) ∙ c .before .if2 .taken))
+    ∙ sym (plan-var (upTo (c .before .before .before .before .before .before .before .before .before .args .largest)) (c .before .before .before .before .before .before .before .before .before .args .levels) (c .before .before .before .before .before .before .before .before .before .args .at) x e (c .before .before .before .before .before .before .before .before .before .args .store .now) (sym (v .kind) ∙ sym (c .before .before .before .before .before .get-u16 .ensures .0) ∙ c .before .if2 .taken))
 
 minus-one-requires : tie.Need-minus-one-requires
 minus-one-requires c κs = tt
@@ -80,7 +80,7 @@ returns-3 c =
     let v = assign-read x e r h in
     ap₂ (λ (m n : ℕ). plan (c .before .before .before .before .before .before .before .before .before .before .args .levels) (c .before .before .before .before .before .before .before .before .before .before .args .at) Evaluate m n 0 0) (c .before .before .before .before .before .before .before .get-u32 .ensures ∙ v .variable)
     (c .minus-one .ensures ∙ ap minusOne (c .before .before .before .value-of .ensures ∙ ap (lookup (c .before .before .before .before .before .before .before .before .before .before .args .store .now)) (c .before .before .before .before .before .get-u322 .ensures ∙ v .number)))
-    ∙ sym (plan-dec (c .before .before .before .before .before .before .before .before .before .before .args .levels) (c .before .before .before .before .before .before .before .before .before .before .args .at) x e (c .before .before .before .before .before .before .before .before .before .before .args .store .now) (sym (v .kind) ∙ sym (c .before .before .before .before .before .before .get-u16 .ensures .0) ∙ c .before .if3 .taken))
+    ∙ sym (plan-dec (upTo (c .before .before .before .before .before .before .before .before .before .before .args .largest)) (c .before .before .before .before .before .before .before .before .before .before .args .levels) (c .before .before .before .before .before .before .before .before .before .before .args .at) x e (c .before .before .before .before .before .before .before .before .before .before .args .store .now) (sym (v .kind) ∙ sym (c .before .before .before .before .before .before .get-u16 .ensures .0) ∙ c .before .if3 .taken))
 
 raise-requires : tie.Need-raise-requires
 raise-requires c κs = search needs
@@ -92,8 +92,8 @@ returns-4 c =
     let k : exprKind e ≡ 18 = omega (arith, v .kind, c .before .before .before .before .before .before .get-u16 .ensures .0, c .before .before .before .before .if1 .left, c .before .before .if2 .left, c .before .if3 .left, exprKind-range e) in
     let n : c .before .before .before .value-of .result ≡ lookup (c .before .before .before .before .before .before .before .before .before .before .args .store .now) (exprNumber e) = c .before .before .before .value-of .ensures ∙ ap (lookup (c .before .before .before .before .before .before .before .before .before .before .args .store .now)) (c .before .before .before .before .before .get-u322 .ensures ∙ v .number) in
     c .raise .ensures
-    ∙ ap₂ (λ (m y : ℕ). planRaise (c .before .before .before .before .before .before .before .before .before .before .args .levels) (c .before .before .before .before .before .before .before .before .before .before .args .at) m (suc y) 0 (fitsWord (suc y))) (c .before .before .before .before .before .before .before .get-u32 .ensures ∙ v .variable) n
-    ∙ sym (plan-inc (c .before .before .before .before .before .before .before .before .before .before .args .levels) (c .before .before .before .before .before .before .before .before .before .before .args .at) x e (c .before .before .before .before .before .before .before .before .before .before .args .store .now) k)
+    ∙ ap₂ (λ (m y : ℕ). planRaise (c .before .before .before .before .before .before .before .before .before .before .args .levels) (c .before .before .before .before .before .before .before .before .before .before .args .at) m (suc y) 0 (upTo (c .before .before .before .before .before .before .before .before .before .before .args .largest) (suc y))) (c .before .before .before .before .before .before .before .get-u32 .ensures ∙ v .variable) n
+    ∙ sym (plan-inc (upTo (c .before .before .before .before .before .before .before .before .before .before .args .largest)) (c .before .before .before .before .before .before .before .before .before .before .args .levels) (c .before .before .before .before .before .before .before .before .before .before .args .at) x e (c .before .before .before .before .before .before .before .before .before .before .args .store .now) k)
 
 pub look-assign-spec : {M : Type 1} → statement M
 look-assign-spec =

@@ -1,7 +1,7 @@
 use Rattle.command.proofs.open_levels.Statement.{statement}
 use Rattle.command.proofs.open_levels.Tie as tie
-use mathlib.Core.Path.{_≡_, sym, _∙_}
-use Prim.Native.Nat.{_+_, _-_, _*_, _<_}
+use mathlib.Core.Path.{_≡_, subst, sym, _∙_}
+use Prim.Native.Nat.{ℕ, _+_, _-_, _*_, _<_}
 use native.Mathlib.Omega.{arith}
 use lib.ListN.{length}
 use Rattle.rules.specs.Syntax.{Block}
@@ -11,13 +11,15 @@ use Rattle.place.specs.Path.{Walk}
 use Rattle.place.proofs.PathLaws.{walk-start, walk-room, walk-next, walk-end}
 
 abbrev Inv-loop : tie.InvT-loop
-Inv-loop buf levels₀ levels = (P : Block) → BlockAt buf 12 P → 0 < blockSize P → Walk P 12 (12 + 4 * levels)
+Inv-loop buf start levels₀ levels = (P : Block) → BlockAt buf start P → 0 < blockSize P → Walk P start (start + 4 * levels)
 
 abbrev μ-loop : tie.MeasureT-loop
-μ-loop buf levels₀ levels = length buf - (12 + 4 * levels)
+μ-loop buf start levels₀ levels = length buf - (start + 4 * levels)
 
 loop-holds : tie.Need-loop-holds Inv-loop μ-loop
-loop-holds c = λ P h s. walk-start P 12 s
+loop-holds c =
+    let e : c .before .args .start ≡ c .before .args .start + 0 = omega arith in
+    λ P h s. subst (λ (n : ℕ). Walk P (c .before .args .start) n) e (walk-start P (c .before .args .start) s)
 
 mul-opens : tie.Need-mul-opens Inv-loop μ-loop
 mul-opens c =
@@ -48,7 +50,7 @@ loop-again : tie.Need-loop-again Inv-loop μ-loop
 loop-again c =
     λ P h s.
     let w = walk-next h (c .before .before .loop .inv P h s) (sym (c .before .opens .ensures) ∙ c .if1 .taken) in
-    let e : 12 + 4 * (c .before .before .loop .levels) + 4 ≡ 12 + 4 * (c .before .before .loop .levels + 1) = omega arith in
+    let e : c .before .before .before .before .args .start + 4 * (c .before .before .loop .levels) + 4 ≡ c .before .before .before .before .args .start + 4 * (c .before .before .loop .levels + 1) = omega arith in
     rw e at w
 
 returns : tie.Need-returns Inv-loop μ-loop

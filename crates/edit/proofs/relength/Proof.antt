@@ -7,17 +7,16 @@ use Prim.Native.Nat.{_+_, _*_, _-_, _≤_}
 use mathlib.Core.Path.{_≡_, _∙_, ap, refl, sym}
 use lib.ListN.{length}
 use native.Mathlib.Nat.{add-zero, sub-zero}
-use Rattle.record.specs.Header.{contentsAt}
 use Rattle.place.specs.Heads.{relength, shifted}
 use Rattle.place.proofs.HeadsLaws.{relength-turn, relength-zero}
 use Rattle.place.proofs.WholeLaws.{relengthAll-is}
 
 abbrev Inv-loop : tie.InvT-loop
-Inv-loop buf₀ count up down i₀ buf i =
-    (i ≤ count) × (length buf ≡ length buf₀) × (relength (shifted up down) (count - i) (contentsAt + 4 * i) buf ≡ relength (shifted up down) count contentsAt buf₀)
+Inv-loop buf₀ start count up down i₀ buf i =
+    (i ≤ count) × (length buf ≡ length buf₀) × (relength (shifted up down) (count - i) (start + 4 * i) buf ≡ relength (shifted up down) count start buf₀)
 
 abbrev μ-loop : tie.MeasureT-loop
-μ-loop buf₀ count up down i₀ buf i = count - i
+μ-loop buf₀ start count up down i₀ buf i = count - i
 
 adjust-requires : tie.Need-adjust-requires Inv-loop μ-loop
 adjust-requires c κs = search needs
@@ -44,7 +43,7 @@ loop-again : tie.Need-loop-again Inv-loop μ-loop
 loop-again c =
     let h = c .before .before .before .before .before .loop in
     let a = c .before .before .before .before .before .before .before .before .before .before .before .args in
-    (omega arith, c .before .before .adjust2 .kept .0 ∙ h .inv .1, relength-turn (shifted (a .up) (a .down)) (a .count) (h .i) (contentsAt + 4 * h .i) (contentsAt + 4 * (h .i + 1)) (h .buf) _ _ (c .before .before .before .before .loop-test .taken) (omega arith) (c .before .before .adjust2 .ensures) (h .inv .2))
+    (omega arith, c .before .before .adjust2 .kept .0 ∙ h .inv .1, relength-turn (shifted (a .up) (a .down)) (a .count) (h .i) (a .start + 4 * h .i) (a .start + 4 * (h .i + 1)) (h .buf) _ _ (c .before .before .before .before .loop-test .taken) (omega arith) (c .before .before .adjust2 .ensures) (h .inv .2))
 
 same-length : tie.Need-same-length Inv-loop μ-loop
 same-length c = c .before .loop .inv .1 ∙ c .before .before .before .before .adjust .kept .0
@@ -54,7 +53,7 @@ returns c =
     let h = c .before .loop in
     let a = c .before .before .before .before .before .before .before .args in
     let e : a .count - h .i ≡ 0 = omega arith in
-    sym (relength-zero (shifted (a .up) (a .down)) (contentsAt + 4 * h .i) (h .buf)) ∙ rw e at (h .inv .2) ∙ ap (relength (shifted (a .up) (a .down)) (a .count) contentsAt) (c .before .before .before .before .adjust .ensures) ∙ relengthAll-is (shifted (a .up) (a .down)) (a .count) (a .buf .now)
+    sym (relength-zero (shifted (a .up) (a .down)) (a .start + 4 * h .i) (h .buf)) ∙ rw e at (h .inv .2) ∙ ap (relength (shifted (a .up) (a .down)) (a .count) (a .start)) (c .before .before .before .before .adjust .ensures) ∙ relengthAll-is (shifted (a .up) (a .down)) (a .start) (a .count) (a .buf .now)
 
 pub relength-spec : {M : Type 1} → statement M
 relength-spec =

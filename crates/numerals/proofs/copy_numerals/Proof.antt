@@ -8,27 +8,33 @@ use native.Mathlib.Omega.{arith}
 use Prim.Native.Nat.{ℕ, _-_, _<_, _≤_}
 use lib.ListN.{length, length-set}
 use Rattle.buffer.specs.Slice.{part, put}
-use Rattle.record.specs.Holding.{TermIn}
-use Rattle.rules.specs.FreeVariables.{noVars}
-use Rattle.rules.specs.Syntax.{num, tuple}
+use Rattle.rules.specs.Syntax.{num}
 use Rattle.numerals.proofs.NumeralsLaws.{copied-all, copied-none, copied-turn, record-row}
+use Rattle.place.specs.TermView.{AtomsAt}
+use Rattle.place.proofs.WholeLaws.{term-at}
+use Rattle.place.proofs.TermViewLaws.{term-room}
 
 abbrev Inv-loop : tie.InvT-loop
-Inv-loop buf used k store₀ i₀ store i =
-    (i ≤ length store₀) × (length store ≡ length store₀) × ((vs : List ℕ) → TermIn noVars k (tuple (map num vs)) buf used → store ≡ put store₀ 0 (part vs 0 i))
+Inv-loop buf used store₀ atoms i₀ store i =
+    (i ≤ length store₀) × (length store ≡ length store₀) × ((vs : List ℕ) → AtomsAt buf atoms (map num vs) → length vs ≡ length store₀ → store ≡ put store₀ 0 (part vs 0 i))
 
 abbrev μ-loop : tie.MeasureT-loop
-μ-loop buf used k store₀ i₀ store i = length store₀ - i
+μ-loop buf used store₀ atoms i₀ store i = length store₀ - i
+
+contents-at-requires : tie.Need-contents-at-requires Inv-loop μ-loop
+contents-at-requires c κs = tt
+
+add-atoms : tie.Need-add-atoms Inv-loop μ-loop
+add-atoms c =
+    let r = term-room (term-at (c .before .before .before .pre .0 .1) (c .before .before .before .pre .1)) in omega (arith, c .contents-at .ensures)
 
 loop-holds : tie.Need-loop-holds Inv-loop μ-loop
-loop-holds c = (omega arith, refl, λ vs h. copied-none _ vs)
-
-add-numeral : tie.Need-add-numeral Inv-loop μ-loop
-add-numeral c = search needs
+loop-holds c = (omega arith, refl, λ vs h e. copied-none _ vs)
 
 numeral-requires : tie.Need-numeral-requires Inv-loop μ-loop
 numeral-requires c κs =
-    let r = record-row (c .before .before .before .before .pre .0 .0) (c .before .before .before .before .pre .0 .1) (c .before .before .before .before .pre .1) in (c .before .before .before .before .pre .0 .0, (r .0, omega (arith, r .1, c .before .before .before .before .pre .2, c .before .loop .inv .1)))
+    let r = record-row (c .before .before .before .before .before .pre .0 .0) (c .before .before .before .before .before .pre .0 .1) (c .before .before .before .before .before .pre .1) (c .before .before .contents-at .ensures) in
+    (c .before .before .before .before .before .pre .0 .0, (r .0, omega (arith, r .1, c .before .before .before .before .before .pre .2, c .before .loop .inv .1)))
 
 mul-store : tie.Need-mul-store Inv-loop μ-loop
 mul-store c = search needs
@@ -46,10 +52,9 @@ loop-again : tie.Need-loop-again Inv-loop μ-loop
 loop-again c = (
   omega (arith, c .before .before .loop .inv .1),
   simp length-set (c .before .before .loop .inv .1),
-  λ vs h.
-      let r = record-row vs h (c .before .before .before .before .before .pre .1) in
-      let b : c .before .before .loop .i < length vs = omega (arith, r .1, c .before .before .before .before .before .pre .2, c .before .before .loop .inv .1) in
-      copied-turn _ _ vs (c .before .before .loop .i) _ (omega (arith, c .before .before .loop .inv .1)) b (c .numeral .ensures vs (r .0) b) (c .before .before .loop .inv .2 vs h),
+  λ vs h e.
+      let b : c .before .before .loop .i < length vs = omega (arith, e, c .before .before .loop .inv .1) in
+      copied-turn _ _ vs (c .before .before .loop .i) _ (omega (arith, c .before .before .loop .inv .1)) b (c .numeral .ensures vs h b) (c .before .before .loop .inv .2 vs h e),
 )
 
 same-length : tie.Need-same-length Inv-loop μ-loop
@@ -58,8 +63,9 @@ same-length c = c .before .loop .inv .1
 returns : tie.Need-returns Inv-loop μ-loop
 returns c =
     λ vs h.
-    let r = record-row vs h (c .before .before .before .before .pre .1) in
-    copied-all _ _ vs (c .before .loop .i) (omega (arith, r .1, c .before .before .before .before .pre .2, c .before .loop .inv .1)) (c .before .before .before .before .pre .2 ∙ sym (r .1)) (c .before .loop .inv .2 vs h)
+    let r = record-row vs h (c .before .before .before .before .before .pre .1) (c .before .before .contents-at .ensures) in
+    let e : length vs ≡ length (c .before .before .before .before .before .args .store .now) = r .1 ∙ sym (c .before .before .before .before .before .pre .2) in
+    copied-all _ _ vs (c .before .loop .i) (omega (arith, e, c .before .loop .inv .1)) (sym e) (c .before .loop .inv .2 vs (r .0) e)
 
 pub copy-numerals-spec : {M : Type 1} → statement M
 copy-numerals-spec =
@@ -67,8 +73,9 @@ copy-numerals-spec =
     (tie.spec
     Inv-loop
     μ-loop
+    contents-at-requires
+    add-atoms
     loop-holds
-    add-numeral
     numeral-requires
     mul-store
     slice-write-store

@@ -12,18 +12,21 @@ use Rattle.recognition.proofs.RecognitionLaws.{ToRecognise, isLetAll-ki
 use Rattle.recognition.proofs.ScanLaws.{kind-room, terms-pass}
 
 abbrev Inv-loop : tie.InvT-loop
-Inv-loop src used k first₀ at₀ first at = (t : Term) → TermIn allVars k t src used → ToRecognise src k used first at t
+Inv-loop src used h first₀ at₀ first at = (t : Term) → TermIn allVars h t src used → ToRecognise src (h .k) used first at t
 
 abbrev μ-loop : tie.MeasureT-loop
-μ-loop src used k first₀ at₀ first at = used - at
+μ-loop src used h first₀ at₀ first at = used - at
+
+contents-at-requires : tie.Need-contents-at-requires Inv-loop μ-loop
+contents-at-requires c κs = tt
 
 loop-holds : tie.Need-loop-holds Inv-loop μ-loop
-loop-holds c = λ t h. recognise-start h (c .before .pre .1)
+loop-holds c = λ t h. recognise-start h (c .before .before .pre .1) (c .contents-at .ensures)
 
 is-legal-requires : tie.Need-is-legal-requires Inv-loop μ-loop
 is-legal-requires c κs =
-    let q = c .before .before .before .pre .0 in
-    (recognise-here (c .before .loop .inv (q .0) (q .1)) (c .loop-test .taken), q .1 .k-high)
+    let q = c .before .before .before .before .pre .0 in
+    (recognise-here (c .before .loop .inv (q .0) (q .1)) (c .loop-test .taken), q .1 .header .k-high)
 
 returns : tie.Need-returns Inv-loop μ-loop
 returns c =
@@ -31,27 +34,27 @@ returns c =
 
 add-get-u16 : tie.Need-add-get-u16 Inv-loop μ-loop
 add-get-u16 c =
-    let q = c .before .before .before .before .before .pre .0 in
+    let q = c .before .before .before .before .before .before .pre .0 in
     omega (arith, kind-room (recognise-here (c .before .before .before .loop .inv (q .0) (q .1)) (c .before .before .loop-test .taken) .1))
 
 get-u16-requires : tie.Need-get-u16-requires Inv-loop μ-loop
 get-u16-requires c κs =
-    let q = c .before .before .before .before .before .pre .0 in
+    let q = c .before .before .before .before .before .before .pre .0 in
     omega (arith, kind-room (recognise-here (c .before .before .before .loop .inv (q .0) (q .1)) (c .before .before .loop-test .taken) .1))
 
 own-size-requires : tie.Need-own-size-requires Inv-loop μ-loop
 own-size-requires c κs =
-    let q = c .before .before .before .before .before .before .pre .0 in
+    let q = c .before .before .before .before .before .before .before .pre .0 in
     recognise-here (c .before .before .before .before .loop .inv (q .0) (q .1)) (c .before .before .before .loop-test .taken)
 
 add-at : tie.Need-add-at Inv-loop μ-loop
 add-at c =
-    let q = c .before .before .before .before .before .before .before .pre .0 in
+    let q = c .before .before .before .before .before .before .before .before .pre .0 in
     omega (arith, terms-pass (c .before .before .before .before .before .loop .inv (q .0) (q .1) .row) (c .before .before .before .before .loop-test .taken) (c .own-size .result) (c .own-size .ensures), q .1 .within)
 
 loop-less : tie.Need-loop-less Inv-loop μ-loop
 loop-less c =
-    let q = c .before .before .before .before .before .before .before .pre .0 in
+    let q = c .before .before .before .before .before .before .before .before .pre .0 in
     omega (arith, terms-pass (c .before .before .before .before .before .loop .inv (q .0) (q .1) .row) (c .before .before .before .before .loop-test .taken) (c .own-size .result) (c .own-size .ensures), q .1 .within)
 
 loop-again : tie.Need-loop-again Inv-loop μ-loop
@@ -71,6 +74,7 @@ is-translation-spec =
     (tie.spec
     Inv-loop
     μ-loop
+    contents-at-requires
     loop-holds
     is-legal-requires
     returns

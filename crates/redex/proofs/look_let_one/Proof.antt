@@ -7,6 +7,7 @@ use native.Mathlib.Omega.{arith}
 use Rattle.plan.specs.Plan.{plan}
 use Rattle.plan.specs.declared.Rule.the-variants.{Evaluate}
 use Rattle.redex.proofs.LookLaws.{let-atom, let-pred, let-succ, one-room}
+use Rattle.rules.specs.Store.{upTo}
 
 add-get-u32 : tie.Need-add-get-u32
 add-get-u32 c = omega (arith, one-room (c .before .pre .0 .1 .1) (c .before .pre .1))
@@ -31,7 +32,7 @@ get-u32-requires-2 c κs =
 returns : tie.Need-returns
 returns c =
     λ k t h s.
-    let-atom h (c .before .before .before .before .before .pre .1) s (c .before .before .before .before .before .args .levels) (c .before .before .before .get-u32 .result) (c .before .before .before .get-u32 .ensures) (sym (c .before .before .get-u16 .ensures .0) ∙ c .before .if1 .taken) (c .get-u322 .result) (c .get-u322 .ensures)
+    let-atom h (c .before .before .before .before .before .pre .1) s (upTo (c .before .before .before .before .before .args .largest)) (c .before .before .before .before .before .args .levels) (c .before .before .before .get-u32 .result) (c .before .before .before .get-u32 .ensures) (sym (c .before .before .get-u16 .ensures .0) ∙ c .before .if1 .taken) (c .get-u322 .result) (c .get-u322 .ensures)
 
 add-get-u32-3 : tie.Need-add-get-u32-3
 add-get-u32-3 c =
@@ -48,7 +49,7 @@ returns-2 : tie.Need-returns-2
 returns-2 c =
     λ k t h s.
     ap (λ (n : ℕ). plan (c .before .before .before .before .before .before .before .args .levels) (c .before .before .before .before .before .before .before .args .at) Evaluate (c .before .before .before .before .before .get-u32 .result) n 0 4) (c .minus-one .ensures)
-    ∙ let-pred h (c .before .before .before .before .before .before .before .pre .1) s (c .before .before .before .before .before .before .before .args .levels) (c .before .before .before .before .before .get-u32 .result) (c .before .before .before .before .before .get-u32 .ensures) (sym (c .before .before .before .before .get-u16 .ensures .0) ∙ c .before .if2 .taken) (c .before .before .get-u323 .result) (c .before .before .get-u323 .ensures)
+    ∙ let-pred h (c .before .before .before .before .before .before .before .pre .1) s (upTo (c .before .before .before .before .before .before .before .args .largest)) (c .before .before .before .before .before .before .before .args .levels) (c .before .before .before .before .before .get-u32 .result) (c .before .before .before .before .before .get-u32 .ensures) (sym (c .before .before .before .before .get-u16 .ensures .0) ∙ c .before .if2 .taken) (c .before .before .get-u323 .result) (c .before .before .get-u323 .ensures)
 
 raise-requires : tie.Need-raise-requires
 raise-requires c κs = search needs
@@ -57,7 +58,7 @@ returns-3 : tie.Need-returns-3
 returns-3 c =
     λ k t h s.
     c .raise .ensures
-    ∙ let-succ h (c .before .before .before .before .before .before .before .pre .1) s (c .before .before .before .before .before .before .before .args .levels) (c .before .before .before .before .before .get-u32 .result) (c .before .before .before .before .before .get-u32 .ensures) (λ e. c .before .before .before .if1 .left (c .before .before .before .before .get-u16 .ensures .0 ∙ e)) (λ e. c .before .if2 .left (c .before .before .before .before .get-u16 .ensures .0 ∙ e)) (c .before .before .get-u323 .result) (c .before .before .get-u323 .ensures)
+    ∙ let-succ h (c .before .before .before .before .before .before .before .pre .1) s (upTo (c .before .before .before .before .before .before .before .args .largest)) (c .before .before .before .before .before .before .before .args .levels) (c .before .before .before .before .before .get-u32 .result) (c .before .before .before .before .before .get-u32 .ensures) (λ e. c .before .before .before .if1 .left (c .before .before .before .before .get-u16 .ensures .0 ∙ e)) (λ e. c .before .if2 .left (c .before .before .before .before .get-u16 .ensures .0 ∙ e)) (c .before .before .get-u323 .result) (c .before .before .get-u323 .ensures)
 
 pub look-let-one-spec : {M : Type 1} → statement M
 look-let-one-spec =

@@ -39,18 +39,18 @@ add-t14 c = search needs
 
 returns : tie.Need-returns
 returns c =
-    λ t h s.
+    λ t h s ok.
     let b : c .before .get-u16 .result - (24 + 8 * (c .before .before .before .before .before .args .k)) + (24 + 8 * (c .before .before .before .before .before .args .k)) ≡ val (part (c .before .before .before .before .before .args .buf .now) (c .before .before .before .before .before .args .at) 2) = omega (arith, rec-room h (c .before .before .before .before .before .pre .1), c .before .get-u16 .ensures .0) in
-    rec-stop h (c .before .before .before .before .before .pre .1) s (c .before .before .before .before .before .args .levels) (c .before .before .before .get-u32 .result) (c .before .get-u16 .result - (24 + 8 * (c .before .before .before .before .before .args .k))) (c .before .before .before .get-u32 .ensures) b (c .before .before .get-u322 .result) (c .before .before .get-u322 .ensures) (c .if1 .taken)
+    rec-stop h (c .before .before .before .before .before .pre .1) s ok (c .before .before .before .before .before .args .levels) (c .before .before .before .get-u32 .result) (c .before .get-u16 .result - (24 + 8 * (c .before .before .before .before .before .args .k))) (c .before .before .before .get-u32 .ensures) b (c .before .before .get-u322 .result) (c .before .before .get-u322 .ensures) (c .if1 .taken)
 
 add-t8 : tie.Need-add-t8
 add-t8 c = search needs
 
 returns-2 : tie.Need-returns-2
 returns-2 c =
-    λ t h s.
+    λ t h s ok.
     let b : c .before .get-u16 .result - (24 + 8 * (c .before .before .before .before .before .args .k)) + (24 + 8 * (c .before .before .before .before .before .args .k)) ≡ val (part (c .before .before .before .before .before .args .buf .now) (c .before .before .before .before .before .args .at) 2) = omega (arith, rec-room h (c .before .before .before .before .before .pre .1), c .before .get-u16 .ensures .0) in
-    rec-unroll h (c .before .before .before .before .before .pre .1) s (c .before .before .before .before .before .args .levels) (c .before .before .before .get-u32 .result) (c .before .get-u16 .result - (24 + 8 * (c .before .before .before .before .before .args .k))) (c .before .before .before .get-u32 .ensures) b (c .before .before .get-u322 .result) (c .before .before .get-u322 .ensures) (c .if1 .left)
+    rec-unroll h (c .before .before .before .before .before .pre .1) s ok (c .before .before .before .before .before .args .levels) (c .before .before .before .get-u32 .result) (c .before .get-u16 .result - (24 + 8 * (c .before .before .before .before .before .args .k))) (c .before .before .before .get-u32 .ensures) b (c .before .before .get-u322 .result) (c .before .before .get-u322 .ensures) (c .if1 .left)
 
 pub look-rec-spec : {M : Type 1} → statement M
 look-rec-spec =

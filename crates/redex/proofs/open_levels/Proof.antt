@@ -1,24 +1,25 @@
 use Rattle.redex.proofs.open_levels.Statement.{statement}
 use Rattle.redex.proofs.open_levels.Tie as tie
-use mathlib.Core.Path.{_≡_, sym, _∙_}
+use mathlib.Core.Path.{_≡_, subst, sym, _∙_}
 use Prim.Native.Nat.{ℕ, _+_, _*_, _-_}
 use native.Mathlib.Omega.{arith}
 use lib.ListN.{length}
-use Rattle.record.specs.Header.{contentsAt}
 use Rattle.rules.specs.Syntax.{Term}
 use Rattle.place.specs.TermView.{TermAt}
 use Rattle.place.specs.TermPath.{TermWalk}
 use Rattle.place.proofs.TermPathLaws.{termWalk-end, termWalk-first, termWalk-next, termWalk-room, termWalk-start}
 
 abbrev Inv-loop : tie.InvT-loop
-Inv-loop buf levels₀ levels =
-    (k : ℕ) (t : Term) → TermAt buf contentsAt k t → TermWalk t contentsAt (contentsAt + 4 * levels)
+Inv-loop buf contents levels₀ levels =
+    (k : ℕ) (t : Term) → TermAt buf contents k t → TermWalk t contents (contents + 4 * levels)
 
 abbrev μ-loop : tie.MeasureT-loop
-μ-loop buf levels₀ levels = length buf - (contentsAt + 4 * levels)
+μ-loop buf contents levels₀ levels = length buf - (contents + 4 * levels)
 
 loop-holds : tie.Need-loop-holds Inv-loop μ-loop
-loop-holds c = λ k t h. termWalk-start t contentsAt
+loop-holds c =
+    let e : c .before .args .contents ≡ c .before .args .contents + 0 = omega arith in
+    λ k t h. subst (λ (n : ℕ). TermWalk t (c .before .args .contents) n) e (termWalk-start t (c .before .args .contents))
 
 mul-enters : tie.Need-mul-enters Inv-loop μ-loop
 mul-enters c =
@@ -50,7 +51,7 @@ loop-again : tie.Need-loop-again Inv-loop μ-loop
 loop-again c =
     λ k t h.
     let w = termWalk-next h (c .before .before .loop .inv k t h) (sym (c .before .enters .ensures) ∙ c .if1 .taken) in
-    let e : contentsAt + 4 * (c .before .before .loop .levels) + 4 ≡ contentsAt + 4 * (c .before .before .loop .levels + 1) = omega arith in
+    let e : c .before .before .before .before .args .contents + 4 * (c .before .before .loop .levels) + 4 ≡ c .before .before .before .before .args .contents + 4 * (c .before .before .loop .levels + 1) = omega arith in
     rw e at w
 
 returns : tie.Need-returns Inv-loop μ-loop

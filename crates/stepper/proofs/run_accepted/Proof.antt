@@ -3,57 +3,58 @@ use Rattle.stepper.proofs.run_accepted.Statement.{statement}
 use Rattle.stepper.proofs.run_accepted.Tie as tie
 use borrow.Author.Needs.{needs}
 use mathlib.Core.Path.{refl, sym, _∙_, _≡_}
-use Prim.Native.Nat.{ℕ}
 use lib.ListN.{length}
 use native.Mathlib.Omega.{arith}
 use Rattle.rules.specs.Rules.{at}
 use Rattle.rules.specs.Syntax.{Block}
 use Rattle.stepping.specs.State.{Stands}
-use Rattle.stepper.proofs.RunningLaws.{Between, accepted-stands, between-ends, between-left, between-on, between-ready, between-start, between-sums}
+use Rattle.stepper.proofs.RunningLaws.{Between, accepted-stands, between-ends, between-left, between-on, between-ready, between-start, between-sums, looked}
+use Rattle.record.specs.declared.Header.{Header}
+use Rattle.record.specs.Header.{contentsAt, largestOf}
 
 abbrev Inv-loop : tie.InvT-loop
-Inv-loop buf₀ used store₀ budget room size₀ tally₀ buf store size tally =
-    ((k : ℕ) (P : Block) → Stands k (at P store₀) buf₀ used → Between k (at P store₀) room budget tally buf size store)
+Inv-loop buf₀ used store₀ budget contents largest room size₀ tally₀ buf store size tally =
+    ((hd : Header) → contents ≡ contentsAt hd → largest ≡ largestOf hd → (P : Block) → Stands hd (at P store₀) buf₀ used → Between hd (at P store₀) room budget tally buf size store)
     × ((length buf ≡ room) × (length store ≡ length store₀))
 
 abbrev μ-loop : tie.MeasureT-loop
-μ-loop buf₀ used store₀ budget room size₀ tally₀ buf store size tally = tally .left
+μ-loop buf₀ used store₀ budget contents largest room size₀ tally₀ buf store size tally = tally .left
+
+contents-at-requires : tie.Need-contents-at-requires Inv-loop μ-loop
+contents-at-requires c κs = search needs
+
+largest-requires : tie.Need-largest-requires Inv-loop μ-loop
+largest-requires c κs = search needs
 
 sub-zero : tie.Need-sub-zero Inv-loop μ-loop
-sub-zero c =
-    let h = c .before .before .before .pre .1 .1 in
-    omega (arith, h .holds .within)
+sub-zero c = omega (arith, c .before .before .before .before .before .pre .1 .holds .within)
 
 zero-requires : tie.Need-zero-requires Inv-loop μ-loop
-zero-requires c κs =
-    let h = c .before .before .before .pre .1 .1 in
-    omega (arith, h .holds .within)
+zero-requires c κs = omega (arith, c .before .before .before .before .before .pre .1 .holds .within)
 
 start-requires : tie.Need-start-requires Inv-loop μ-loop
 start-requires c κs = search needs
 
 loop-holds : tie.Need-loop-holds Inv-loop μ-loop
-loop-holds c = ((λ k P h. between-start h _ _ _ (c .start .ensures)), (c .before .before .before .zero .kept .0, refl))
+loop-holds c =
+    ((λ hd _ _ P h. between-start h _ _ _ (c .start .ensures)), (c .before .before .before .zero .kept .0, refl))
 
 look-requires : tie.Need-look-requires Inv-loop μ-loop
 look-requires c κs =
-    let h = c .before .before .before .before .before .before .before .before .before .before .pre in
-    let b = c .before .before .loop .inv .0 (h .0) (h .1 .0) (accepted-stands (h .1 .1) _ (c .before .before .before .before .before .before .zero .ensures)) in
-    (h .0, (b .block, (b .stands .holds, (b .stands .short, b .stands .count))))
+    let b = (c .before .before .loop .inv .0 (c .before .before .before .before .before .before .before .before .before .before .before .before .args .h) (c .before .before .before .before .before .before .before .before .before .contents-at .ensures) (c .before .before .before .before .before .before .before .before .largest .ensures) (c .before .before .before .before .before .before .before .before .before .before .before .before .pre .0) (accepted-stands (c .before .before .before .before .before .before .before .before .before .before .before .before .pre .1) _ (c .before .before .before .before .before .before .zero .ensures))) in
+    (c .before .before .before .before .before .before .before .before .before .before .before .before .args .h, (b .block, (b .stands .holds, (b .stands .short, (b .stands .count, (sym (c .before .before .before .before .before .before .before .before .before .contents-at .ensures)))))))
 
 outcome-of-requires : tie.Need-outcome-of-requires Inv-loop μ-loop
 outcome-of-requires c κs =
-    let h = c .before .before .before .before .before .before .before .before .before .before .before .pre in
-    let b = c .before .before .before .loop .inv .0 (h .0) (h .1 .0) (accepted-stands (h .1 .1) _ (c .before .before .before .before .before .before .before .zero .ensures)) in
-    between-sums b (c .look .result) (c .look .ensures (h .0) (b .block) (b .stands .holds) (b .stands .count))
+    let b = (c .before .before .before .loop .inv .0 (c .before .before .before .before .before .before .before .before .before .before .before .before .before .args .h) (c .before .before .before .before .before .before .before .before .before .before .contents-at .ensures) (c .before .before .before .before .before .before .before .before .before .largest .ensures) (c .before .before .before .before .before .before .before .before .before .before .before .before .before .pre .0) (accepted-stands (c .before .before .before .before .before .before .before .before .before .before .before .before .before .pre .1) _ (c .before .before .before .before .before .before .before .zero .ensures))) in
+    between-sums b (c .look .result) (looked _ _ _ _ _ _ (sym (c .before .before .before .before .before .before .before .before .before .before .contents-at .ensures)) (c .before .before .before .before .before .before .before .before .before .largest .ensures) (c .look .ensures (c .before .before .before .before .before .before .before .before .before .before .before .before .before .args .h) (b .block) (b .stands .holds) (b .stands .count) (sym (c .before .before .before .before .before .before .before .before .before .before .contents-at .ensures))))
 
 ends-requires : tie.Need-ends-requires Inv-loop μ-loop
 ends-requires c κs = search needs
 
 cast-answer : tie.Need-cast-answer Inv-loop μ-loop
 cast-answer c =
-    let h = c .before .before .before .before .before .before .before .before .before .before .before .before .before .before .pre in
-    let b = c .before .before .before .before .before .before .loop .inv .0 (h .0) (h .1 .0) (accepted-stands (h .1 .1) _ (c .before .before .before .before .before .before .before .before .before .before .zero .ensures)) in
+    let b = (c .before .before .before .before .before .before .loop .inv .0 (c .before .before .before .before .before .before .before .before .before .before .before .before .before .before .before .before .args .h) (c .before .before .before .before .before .before .before .before .before .before .before .before .before .contents-at .ensures) (c .before .before .before .before .before .before .before .before .before .before .before .before .largest .ensures) (c .before .before .before .before .before .before .before .before .before .before .before .before .before .before .before .before .pre .0) (accepted-stands (c .before .before .before .before .before .before .before .before .before .before .before .before .before .before .before .before .pre .1) _ (c .before .before .before .before .before .before .before .before .before .before .zero .ensures))) in
     omega (arith, b .stands .holds .within, b .stands .short)
 
 answer-requires : tie.Need-answer-requires Inv-loop μ-loop
@@ -67,37 +68,34 @@ same-length-2 c = c .before .before .before .before .before .before .before .loo
 
 returns : tie.Need-returns Inv-loop μ-loop
 returns c =
-    λ k P h.
-    let b = c .before .before .before .before .before .before .before .loop .inv .0 k P (accepted-stands h _ (c .before .before .before .before .before .before .before .before .before .before .before .zero .ensures)) in
-    between-ends b (c .before .before .before .before .before .before .before .loop .inv .1 .0) (c .before .before .before .before .look .result) (c .before .before .before .before .look .ensures k (b .block) (b .stands .holds) (b .stands .count)) (c .before .before .before .outcome-of .result) (c .before .before .before .outcome-of .ensures)
+    λ P h.
+    let b = c .before .before .before .before .before .before .before .loop .inv .0 (c .before .before .before .before .before .before .before .before .before .before .before .before .before .before .before .before .before .args .h) (c .before .before .before .before .before .before .before .before .before .before .before .before .before .before .contents-at .ensures) (c .before .before .before .before .before .before .before .before .before .before .before .before .before .largest .ensures) P (accepted-stands h _ (c .before .before .before .before .before .before .before .before .before .before .before .zero .ensures)) in
+    between-ends b (c .before .before .before .before .before .before .before .loop .inv .1 .0) (c .before .before .before .before .look .result) (looked _ _ _ _ _ _ (sym (c .before .before .before .before .before .before .before .before .before .before .before .before .before .before .contents-at .ensures)) (c .before .before .before .before .before .before .before .before .before .before .before .before .before .largest .ensures) (c .before .before .before .before .look .ensures (c .before .before .before .before .before .before .before .before .before .before .before .before .before .before .before .before .before .args .h) (b .block) (b .stands .holds) (b .stands .count) (sym (c .before .before .before .before .before .before .before .before .before .before .before .before .before .before .contents-at .ensures)))) (c .before .before .before .outcome-of .result) (c .before .before .before .outcome-of .ensures)
     (sym (c .before .before .ends .ensures) ∙ c .before .if1 .taken) (c .answer .result) (c .answer .ensures)
 
 perform-requires : tie.Need-perform-requires Inv-loop μ-loop
 perform-requires c κs =
-    let h = c .before .before .before .before .before .before .before .before .before .before .before .before .before .before .before .before .pre in
-    let b = c .before .before .before .before .before .before .before .before .loop .inv .0 (h .0) (h .1 .0) (accepted-stands (h .1 .1) _ (c .before .before .before .before .before .before .before .before .before .before .before .before .zero .ensures)) in
-    (h .0, (b .block, between-ready b (c .before .before .before .before .before .before .before .before .loop .inv .1 .0) (c .before .before .before .before .before .look .result) (c .before .before .before .before .before .look .ensures (h .0) (b .block) (b .stands .holds) (b .stands .count)) (c .before .before .before .before .outcome-of .result) (c .before .before .before .before .outcome-of .ensures) (sym (c .before .before .before .ends .ensures) ∙ c .before .before .if1 .left)))
+    let b = (c .before .before .before .before .before .before .before .before .loop .inv .0 (c .before .before .before .before .before .before .before .before .before .before .before .before .before .before .before .before .before .before .args .h) (c .before .before .before .before .before .before .before .before .before .before .before .before .before .before .before .contents-at .ensures) (c .before .before .before .before .before .before .before .before .before .before .before .before .before .before .largest .ensures) (c .before .before .before .before .before .before .before .before .before .before .before .before .before .before .before .before .before .before .pre .0) (accepted-stands (c .before .before .before .before .before .before .before .before .before .before .before .before .before .before .before .before .before .before .pre .1) _ (c .before .before .before .before .before .before .before .before .before .before .before .before .zero .ensures))) in
+    (c .before .before .before .before .before .before .before .before .before .before .before .before .before .before .before .before .before .before .args .h, (b .block, (between-ready b (c .before .before .before .before .before .before .before .before .loop .inv .1 .0) (c .before .before .before .before .before .look .result) (looked _ _ _ _ _ _ (sym (c .before .before .before .before .before .before .before .before .before .before .before .before .before .before .before .contents-at .ensures)) (c .before .before .before .before .before .before .before .before .before .before .before .before .before .before .largest .ensures) (c .before .before .before .before .before .look .ensures (c .before .before .before .before .before .before .before .before .before .before .before .before .before .before .before .before .before .before .args .h) (b .block) (b .stands .holds) (b .stands .count) (sym (c .before .before .before .before .before .before .before .before .before .before .before .before .before .before .before .contents-at .ensures)))) (c .before .before .before .before .outcome-of .result) (c .before .before .before .before .outcome-of .ensures) (sym (c .before .before .before .ends .ensures) ∙ c .before .before .if1 .left), sym (c .before .before .before .before .before .before .before .before .before .before .before .before .before .before .before .contents-at .ensures))))
 
 advance-requires : tie.Need-advance-requires Inv-loop μ-loop
 advance-requires c κs =
-    let h = c .before .before .before .before .before .before .before .before .before .before .before .before .before .before .before .before .before .before .before .before .before .pre in
-    let b = c .before .before .before .before .before .before .before .before .before .before .before .before .before .loop .inv .0 (h .0) (h .1 .0) (accepted-stands (h .1 .1) _ (c .before .before .before .before .before .before .before .before .before .before .before .before .before .before .before .before .before .zero .ensures)) in
-    let m = between-left b (c .before .before .before .before .before .before .before .before .before .before .before .before .before .loop .inv .1 .0) (c .before .before .before .before .before .before .before .before .before .before .look .result) (c .before .before .before .before .before .before .before .before .before .before .look .ensures (h .0) (b .block) (b .stands .holds) (b .stands .count)) (c .before .before .before .before .before .before .before .before .before .outcome-of .result) (c .before .before .before .before .before .before .before .before .before .outcome-of .ensures) (sym (c .before .before .before .before .before .before .before .before .ends .ensures) ∙ c .before .before .before .before .before .before .before .if1 .left) in
-    (m .0, omega (arith, m .1, c .before .before .before .before .before .before .before .before .before .before .before .before .before .before .before .before .before .before .before .before .before .fits .budget))
+    let b = (c .before .before .before .before .before .before .before .before .before .before .before .before .before .loop .inv .0 (c .before .before .before .before .before .before .before .before .before .before .before .before .before .before .before .before .before .before .before .before .before .before .before .args .h) (c .before .before .before .before .before .before .before .before .before .before .before .before .before .before .before .before .before .before .before .before .contents-at .ensures) (c .before .before .before .before .before .before .before .before .before .before .before .before .before .before .before .before .before .before .before .largest .ensures) (c .before .before .before .before .before .before .before .before .before .before .before .before .before .before .before .before .before .before .before .before .before .before .before .pre .0) (accepted-stands (c .before .before .before .before .before .before .before .before .before .before .before .before .before .before .before .before .before .before .before .before .before .before .before .pre .1) _ (c .before .before .before .before .before .before .before .before .before .before .before .before .before .before .before .before .before .zero .ensures))) in
+    let m = between-left b (c .before .before .before .before .before .before .before .before .before .before .before .before .before .loop .inv .1 .0) (c .before .before .before .before .before .before .before .before .before .before .look .result) (looked _ _ _ _ _ _ (sym (c .before .before .before .before .before .before .before .before .before .before .before .before .before .before .before .before .before .before .before .before .contents-at .ensures)) (c .before .before .before .before .before .before .before .before .before .before .before .before .before .before .before .before .before .before .before .largest .ensures) (c .before .before .before .before .before .before .before .before .before .before .look .ensures (c .before .before .before .before .before .before .before .before .before .before .before .before .before .before .before .before .before .before .before .before .before .before .before .args .h) (b .block) (b .stands .holds) (b .stands .count) (sym (c .before .before .before .before .before .before .before .before .before .before .before .before .before .before .before .before .before .before .before .before .contents-at .ensures)))) (c .before .before .before .before .before .before .before .before .before .outcome-of .result) (c .before .before .before .before .before .before .before .before .before .outcome-of .ensures) (sym (c .before .before .before .before .before .before .before .before .ends .ensures) ∙ c .before .before .before .before .before .before .before .if1 .left) in
+    (m .0, omega (arith, m .1, c .before .before .before .before .before .before .before .before .before .before .before .before .before .before .before .before .before .before .before .before .before .before .before .fits .budget))
 
 loop-less : tie.Need-loop-less Inv-loop μ-loop
 loop-less c =
-    let h = c .before .before .before .before .before .before .before .before .before .before .before .before .before .before .before .before .before .before .before .before .before .before .pre in
-    let b = c .before .before .before .before .before .before .before .before .before .before .before .before .before .before .loop .inv .0 (h .0) (h .1 .0) (accepted-stands (h .1 .1) _ (c .before .before .before .before .before .before .before .before .before .before .before .before .before .before .before .before .before .before .zero .ensures)) in
-    let m = between-left b (c .before .before .before .before .before .before .before .before .before .before .before .before .before .before .loop .inv .1 .0) (c .before .before .before .before .before .before .before .before .before .before .before .look .result) (c .before .before .before .before .before .before .before .before .before .before .before .look .ensures (h .0) (b .block) (b .stands .holds) (b .stands .count)) (c .before .before .before .before .before .before .before .before .before .before .outcome-of .result) (c .before .before .before .before .before .before .before .before .before .before .outcome-of .ensures) (sym (c .before .before .before .before .before .before .before .before .before .ends .ensures) ∙ c .before .before .before .before .before .before .before .before .if1 .left) in
+    let b = (c .before .before .before .before .before .before .before .before .before .before .before .before .before .before .loop .inv .0 (c .before .before .before .before .before .before .before .before .before .before .before .before .before .before .before .before .before .before .before .before .before .before .before .before .args .h) (c .before .before .before .before .before .before .before .before .before .before .before .before .before .before .before .before .before .before .before .before .before .contents-at .ensures) (c .before .before .before .before .before .before .before .before .before .before .before .before .before .before .before .before .before .before .before .before .largest .ensures) (c .before .before .before .before .before .before .before .before .before .before .before .before .before .before .before .before .before .before .before .before .before .before .before .before .pre .0) (accepted-stands (c .before .before .before .before .before .before .before .before .before .before .before .before .before .before .before .before .before .before .before .before .before .before .before .before .pre .1) _ (c .before .before .before .before .before .before .before .before .before .before .before .before .before .before .before .before .before .before .zero .ensures))) in
+    let m = between-left b (c .before .before .before .before .before .before .before .before .before .before .before .before .before .before .loop .inv .1 .0) (c .before .before .before .before .before .before .before .before .before .before .before .look .result) (looked _ _ _ _ _ _ (sym (c .before .before .before .before .before .before .before .before .before .before .before .before .before .before .before .before .before .before .before .before .before .contents-at .ensures)) (c .before .before .before .before .before .before .before .before .before .before .before .before .before .before .before .before .before .before .before .before .largest .ensures) (c .before .before .before .before .before .before .before .before .before .before .before .look .ensures (c .before .before .before .before .before .before .before .before .before .before .before .before .before .before .before .before .before .before .before .before .before .before .before .before .args .h) (b .block) (b .stands .holds) (b .stands .count) (sym (c .before .before .before .before .before .before .before .before .before .before .before .before .before .before .before .before .before .before .before .before .before .contents-at .ensures)))) (c .before .before .before .before .before .before .before .before .before .before .outcome-of .result) (c .before .before .before .before .before .before .before .before .before .before .outcome-of .ensures) (sym (c .before .before .before .before .before .before .before .before .before .ends .ensures) ∙ c .before .before .before .before .before .before .before .before .if1 .left) in
     rw (c .advance .ensures) (omega (arith, m .0))
 
 loop-again : tie.Need-loop-again Inv-loop μ-loop
 loop-again c = (
-  (λ k P h.
-      let b = c .before .before .before .before .before .before .before .before .before .before .before .before .before .before .loop .inv .0 k P h in
-      let e = c .before .before .before .before .before .before .before .before .before .before .before .look .ensures k (b .block) (b .stands .holds) (b .stands .count) in
-      between-on b (c .before .before .before .before .before .before .before .before .before .before .before .before .before .before .loop .inv .1 .0) (c .before .before .before .before .before .before .before .before .before .before .before .look .result) e (c .before .before .before .before .before .before .before .before .before .before .outcome-of .result) (c .before .before .before .before .before .before .before .before .before .before .outcome-of .ensures) (sym (c .before .before .before .before .before .before .before .before .before .ends .ensures) ∙ c .before .before .before .before .before .before .before .before .if1 .left) _ _ _ (c .before .before .before .before .before .perform .ensures k (b .block) (b .stands) e) (c .before .before .before .before .before .perform .kept .0) _ (c .advance .ensures)),
+  (λ hd ec el P h.
+      let b = c .before .before .before .before .before .before .before .before .before .before .before .before .before .before .loop .inv .0 hd ec el P h in
+      let e = looked hd _ _ _ _ _ (sym ec) el (c .before .before .before .before .before .before .before .before .before .before .before .look .ensures hd (b .block) (b .stands .holds) (b .stands .count) (sym ec)) in
+      between-on b (c .before .before .before .before .before .before .before .before .before .before .before .before .before .before .loop .inv .1 .0) (c .before .before .before .before .before .before .before .before .before .before .before .look .result) e (c .before .before .before .before .before .before .before .before .before .before .outcome-of .result) (c .before .before .before .before .before .before .before .before .before .before .outcome-of .ensures) (sym (c .before .before .before .before .before .before .before .before .before .ends .ensures) ∙ c .before .before .before .before .before .before .before .before .if1 .left) _ _ _ (c .before .before .before .before .before .perform .ensures hd (b .block) (b .stands) e (sym ec)) (c .before .before .before .before .before .perform .kept .0) _ (c .advance .ensures)),
   (c .before .before .before .before .before .perform .kept .0 ∙ c .before .before .before .before .before .before .before .before .before .before .before .before .before .before .loop .inv .1 .0, c .before .before .before .before .before .perform .kept .1 .1 .0 ∙ c .before .before .before .before .before .before .before .before .before .before .before .before .before .before .loop .inv .1 .1),
 )
 
@@ -107,6 +105,8 @@ run-accepted-spec =
     (tie.spec
     Inv-loop
     μ-loop
+    contents-at-requires
+    largest-requires
     sub-zero
     zero-requires
     start-requires

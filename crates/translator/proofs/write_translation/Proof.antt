@@ -4,37 +4,37 @@ use Rattle.translator.proofs.write_translation.Statement.{statement}
 use Rattle.translator.proofs.write_translation.Tie as tie
 use native.Mathlib.Omega.{arith}
 use mathlib.Core.Path.{_∙_}
-use Rattle.translator.proofs.ProgramTaskLaws.{program-task, term-length, term-stores}
+use Rattle.translator.proofs.ProgramTaskLaws.{program-task, term-length, term-stores, term-bound}
 
 translation-size-requires : tie.Need-translation-size-requires
 translation-size-requires c κs = search needs
 
-put-head-requires : tie.Need-put-head-requires
-put-head-requires c κs =
-    omega (arith, c .before .before .before .before .pre .0 .2, term-length (c .before .before .before .before .args .k) (c .before .before .before .before .pre .0 .0))
+contents-at-requires : tie.Need-contents-at-requires
+contents-at-requires c κs = tt
 
-put-u32-requires : tie.Need-put-u32-requires
-put-u32-requires c κs =
-    omega (arith, c .before .before .before .before .before .before .before .before .pre .0 .2, term-length (c .before .before .before .before .before .before .before .before .args .k) (c .before .before .before .before .before .before .before .before .pre .0 .0), c .before .before .before .put-head .kept .0)
+put-header-requires : tie.Need-put-header-requires
+put-header-requires c κs =
+    omega (arith, c .before .before .before .before .before .pre .0 .2, term-length (c .before .before .before .before .before .args .h) (c .before .before .before .before .before .pre .0 .0))
 
 add-zero : tie.Need-add-zero
-add-zero c = search needs
+add-zero c =
+    omega (arith, c .before .before .before .before .contents-at .ensures, term-bound (c .before .before .before .before .before .before .before .before .pre .0 .1) (c .before .before .before .before .before .before .before .before .pre .1) .0)
 
 write-row-requires : tie.Need-write-row-requires
 write-row-requires c κs =
-    let p = c .before .before .before .before .before .before .before .before .before .before .before .before .pre .0 in
-    let size = c .before .before .before .before .before .before .before .before .before .translation-size .ensures (p .0) (p .1) in
-    (program-task (p .1) (c .before .before .before .before .before .before .before .before .before .before .before .before .pre .1) _ size, omega (arith, p .2, c .before .before .before .before .before .before .before .put-head .kept .0, c .before .before .before .put-u32 .kept .0))
+    let p = c .before .before .before .before .before .before .before .before .before .pre .0 in
+    let size = c .before .before .before .before .before .before .translation-size .ensures (p .0) (p .1) in
+    (program-task (p .1) (c .before .before .before .before .before .before .before .before .before .pre .1) (c .before .before .before .before .before .contents-at .ensures) _ size, omega (arith, p .2, c .before .before .before .put-header .kept .0))
 
 sub-zero : tie.Need-sub-zero
 sub-zero c =
-    let p = c .before .before .before .before .before .before .before .before .before .before .before .before .before .before .before .before .pre .0 in
-    omega (arith, p .2, c .before .before .before .before .before .before .before .before .before .before .before .before .before .translation-size .ensures (p .0) (p .1), c .before .before .before .before .before .before .before .before .before .before .before .put-head .kept .0, c .before .before .before .before .before .before .before .put-u32 .kept .0, c .before .before .before .write-row .kept .1 .1 .1 .0)
+    let p = c .before .before .before .before .before .before .before .before .before .before .before .before .before .pre .0 in
+    omega (arith, p .2, c .before .before .before .before .before .before .before .before .before .before .translation-size .ensures (p .0) (p .1), c .before .before .before .before .before .before .before .put-header .kept .0, c .before .before .before .write-row .kept .1 .1 .1 .0)
 
 zero-requires : tie.Need-zero-requires
 zero-requires c κs =
-    let p = c .before .before .before .before .before .before .before .before .before .before .before .before .before .before .before .before .pre .0 in
-    omega (arith, p .2, c .before .before .before .before .before .before .before .before .before .before .before .before .before .translation-size .ensures (p .0) (p .1), c .before .before .before .before .before .before .before .before .before .before .before .put-head .kept .0, c .before .before .before .before .before .before .before .put-u32 .kept .0, c .before .before .before .write-row .kept .1 .1 .1 .0)
+    let p = c .before .before .before .before .before .before .before .before .before .before .before .before .before .pre .0 in
+    omega (arith, p .2, c .before .before .before .before .before .before .before .before .before .before .translation-size .ensures (p .0) (p .1), c .before .before .before .before .before .before .before .put-header .kept .0, c .before .before .before .write-row .kept .1 .1 .1 .0)
 
 same-length : tie.Need-same-length
 same-length c = search needs
@@ -42,18 +42,18 @@ same-length c = search needs
 returns : tie.Need-returns
 returns c =
     λ P h.
-    let p = c .before .before .before .before .before .before .before .before .before .before .before .before .before .before .before .before .before .before .before .pre .0 in
-    let size = c .before .before .before .before .before .before .before .before .before .before .before .before .before .before .before .before .translation-size .ensures P h in
-    let kept = c .before .before .before .before .before .before .write-row .kept .1 .1 .1 .0 ∙ c .before .before .before .before .before .before .before .before .before .before .put-u32 .kept .0 ∙ c .before .before .before .before .before .before .before .before .before .before .before .before .before .before .put-head .kept .0 in
-    term-stores (c .before .before .before .before .before .before .before .before .before .before .before .before .before .before .before .before .before .before .before .args .k) P (c .before .before .before .before .before .before .before .before .before .before .before .before .before .before .before .before .before .before .before .args .out .now) _ _ _ _ _ _ size kept (omega (arith, p .2, c .before .before .before .before .before .before .before .before .before .before .before .before .before .before .before .before .translation-size .ensures (p .0) (p .1))) (c .before .before .before .before .before .before .before .before .before .before .before .before .before .before .put-head .ensures) (c .before .before .before .before .before .before .before .before .before .before .put-u32 .ensures) (c .before .before .before .before .before .before .write-row .ensures (program-task h (c .before .before .before .before .before .before .before .before .before .before .before .before .before .before .before .before .before .before .before .pre .1) _ size)) (c .before .before .zero .ensures)
+    let p = c .before .before .before .before .before .before .before .before .before .before .before .before .before .before .before .before .pre .0 in
+    let size = c .before .before .before .before .before .before .before .before .before .before .before .before .before .translation-size .ensures P h in
+    term-stores (c .before .before .before .before .before .before .before .before .before .before .before .before .before .before .before .before .args .h) P (c .before .before .before .before .before .before .before .before .before .before .before .before .before .before .before .before .args .out .now) _ _ _ _ _ _ size (c .before .before .before .before .before .before .before .before .before .before .before .before .contents-at .ensures) (c .before .before .before .before .before .before .write-row .kept .1 .1 .1 .0 ∙ c .before .before .before .before .before .before .before .before .before .before .put-header .kept .0) (omega (arith, p .2, c .before .before .before .before .before .before .before .before .before .before .before .before .before .translation-size .ensures (p .0) (p .1)))
+    (c .before .before .before .before .before .before .before .before .before .before .put-header .ensures) (c .before .before .before .before .before .before .write-row .ensures (program-task h (c .before .before .before .before .before .before .before .before .before .before .before .before .before .before .before .before .pre .1) (c .before .before .before .before .before .before .before .before .before .before .before .before .contents-at .ensures) _ size)) (c .before .before .zero .ensures)
 
 pub write-translation-spec : {M : Type 1} → statement M
 write-translation-spec =
     tie.close
     (tie.spec
     translation-size-requires
-    put-head-requires
-    put-u32-requires
+    contents-at-requires
+    put-header-requires
     add-zero
     write-row-requires
     sub-zero

@@ -19,12 +19,12 @@ source-size-requires c κs = search needs
 
 returns-2 : tie.Need-returns-2
 returns-2 c =
-    let p = source-found (readBack (c .before .before .before .before .before .before .args .k) (c .before .before .before .before .before .before .pre .0 .0)) (c .before .before .before .is-translation .result) (c .before .before .before .is-translation .ensures (c .before .before .before .before .before .before .pre .0 .0) (c .before .before .before .before .before .before .pre .0 .1)) (not-false (c .before .before .before .is-translation .result) (c .before .before .if1 .left)) in
+    let p = source-found (readBack (c .before .before .before .before .before .before .args .h .k) (c .before .before .before .before .before .before .pre .0 .0)) (c .before .before .before .is-translation .result) (c .before .before .before .is-translation .ensures (c .before .before .before .before .before .before .pre .0 .0) (c .before .before .before .before .before .before .pre .0 .1)) (not-false (c .before .before .before .is-translation .result) (c .before .before .if1 .left)) in
     readBack-ten (c .before .before .before .before .before .before .pre .0 .1) (c .before .before .before .before .before .before .pre .1) (c .before .before .before .before .before .before .args .out .now) (c .before .before .before .before .before .before .pre .2) (p .0) (p .1) (c .before .source-size .result) (c .before .source-size .ensures (c .before .before .before .before .before .before .pre .0 .0) (p .0) (c .before .before .before .before .before .before .pre .0 .1) (p .1)) (c .if2 .taken)
 
 write-source-requires : tie.Need-write-source-requires
 write-source-requires c κs =
-    let p = source-found (readBack (c .before .before .before .before .before .before .before .args .k) (c .before .before .before .before .before .before .before .pre .0 .0)) (c .before .before .before .before .is-translation .result) (c .before .before .before .before .is-translation .ensures (c .before .before .before .before .before .before .before .pre .0 .0) (c .before .before .before .before .before .before .before .pre .0 .1)) (not-false (c .before .before .before .before .is-translation .result) (c .before .before .before .if1 .left)) in
+    let p = source-found (readBack (c .before .before .before .before .before .before .before .args .h .k) (c .before .before .before .before .before .before .before .pre .0 .0)) (c .before .before .before .before .is-translation .result) (c .before .before .before .before .is-translation .ensures (c .before .before .before .before .before .before .before .pre .0 .0) (c .before .before .before .before .before .before .before .pre .0 .1)) (not-false (c .before .before .before .before .is-translation .result) (c .before .before .before .if1 .left)) in
     let n = c .before .before .source-size .ensures (c .before .before .before .before .before .before .before .pre .0 .0) (p .0) (c .before .before .before .before .before .before .before .pre .0 .1) (p .1) in
     ((c .before .before .before .before .before .before .before .pre .0 .0, p .0, c .before .before .before .before .before .before .before .pre .0 .1, p .1, omega (arith, n, c .before .if2 .left)), c .before .before .before .before .before .before .before .pre .1)
 
@@ -37,7 +37,7 @@ same-length c = search needs
 
 returns-3 : tie.Need-returns-3
 returns-3 c =
-    let p = source-found (readBack (c .before .before .before .before .before .before .before .before .before .before .args .k) (c .before .before .before .before .before .before .before .before .before .before .pre .0 .0)) (c .before .before .before .before .before .before .before .is-translation .result) (c .before .before .before .before .before .before .before .is-translation .ensures (c .before .before .before .before .before .before .before .before .before .before .pre .0 .0) (c .before .before .before .before .before .before .before .before .before .before .pre .0 .1)) (not-false (c .before .before .before .before .before .before .before .is-translation .result) (c .before .before .before .before .before .before .if1 .left)) in
+    let p = source-found (readBack (c .before .before .before .before .before .before .before .before .before .before .args .h .k) (c .before .before .before .before .before .before .before .before .before .before .pre .0 .0)) (c .before .before .before .before .before .before .before .is-translation .result) (c .before .before .before .before .before .before .before .is-translation .ensures (c .before .before .before .before .before .before .before .before .before .before .pre .0 .0) (c .before .before .before .before .before .before .before .before .before .before .pre .0 .1)) (not-false (c .before .before .before .before .before .before .before .is-translation .result) (c .before .before .before .before .before .before .if1 .left)) in
     readBack-zero (c .before .before .before .before .before .before .before .before .before .before .pre .0 .1) (c .before .before .before .before .before .before .before .before .before .before .pre .1) (c .before .before .before .before .before .before .before .before .before .before .args .out .now) (c .before .before .before .before .before .before .before .before .before .before .pre .2) (p .0) (p .1) (c .before .before .before .before .before .source-size .result) (c .before .before .before .before .before .source-size .ensures (c .before .before .before .before .before .before .before .before .before .before .pre .0 .0) (p .0) (c .before .before .before .before .before .before .before .before .before .before .pre .0 .1) (p .1)) (c .before .before .before .before .if2 .left)
     (c .before .before .write-source .last .1 .1 .1 .0) (c .before .before .write-source .ensures (c .before .before .before .before .before .before .before .before .before .before .pre .0 .0) (p .0) (c .before .before .before .before .before .before .before .before .before .before .pre .0 .1) (p .1))
 

@@ -1,0 +1,87 @@
+-- The header decides, or what the record holds.
+use borrow.Author.Needs.{needs}
+use Rattle.program_checker.proofs.check_record.Statement.{statement}
+use Rattle.program_checker.proofs.check_record.Tie as tie
+use mathlib.Core.Path.{ap, sym, _∙_}
+use native.Mathlib.Omega.{arith}
+use Prim.Native.Nat.{ℕ}
+use Rattle.rules.specs.Scope.{blockInRange}
+use Rattle.record.specs.Answers.{checkedBy}
+use Rattle.record.specs.Header.{blockIn, contentsAt, program}
+use Rattle.record.proofs.BetweenLaws.{between}
+use Rattle.record.proofs.HeaderReadLaws.{check-program-contents, check-program-header, header-room}
+use Rattle.record.proofs.HeldLaws.{good-buffer}
+use Rattle.checker.specs.Verdict.{numberOf}
+use Rattle.checker.proofs.VerdictLaws.{number-verdict}
+
+check-header-requires : tie.Need-check-header-requires
+check-header-requires c κs = c .before .pre
+
+answer-requires : tie.Need-answer-requires
+answer-requires c κs = search needs
+
+returns : tie.Need-returns
+returns c =
+    let h = c .before .before .check-header in
+    c .answer .ensures ∙ ap (λ (n : ℕ). checkedBy n 0) (h .ensures) ∙ sym (check-program-header (c .before .before .before .before .args .buf .now) (c .before .before .before .before .args .used) (c .before .before .before .before .pre) (λ e. c .before .if1 .taken (h .ensures ∙ e)))
+
+read-header-requires : tie.Need-read-header-requires
+read-header-requires c κs =
+    let w = header-room program (c .before .before .before .args .buf .now) (c .before .before .before .args .used) (sym (c .before .check-header .ensures) ∙ c .if1 .left) in
+    let b = good-buffer (c .before .before .before .args .buf .now) (c .before .before .before .args .used) (c .before .before .before .pre) in
+    omega (arith, b .within, w)
+
+contents-at-requires : tie.Need-contents-at-requires
+contents-at-requires c κs = search needs
+
+sub-check-contents : tie.Need-sub-check-contents
+sub-check-contents c =
+    let w = header-room program (c .before .before .before .before .before .args .buf .now) (c .before .before .before .before .before .args .used) (sym (c .before .before .before .check-header .ensures) ∙ c .before .before .if1 .left) in
+    let b = good-buffer (c .before .before .before .before .before .args .buf .now) (c .before .before .before .before .before .args .used) (c .before .before .before .before .before .pre) in
+    omega (arith, b .within, w, c .contents-at .ensures ∙ ap contentsAt (c .before .read-header .ensures))
+
+part-check-contents-start : tie.Need-part-check-contents-start
+part-check-contents-start c =
+    let w = header-room program (c .before .before .before .before .before .args .buf .now) (c .before .before .before .before .before .args .used) (sym (c .before .before .before .check-header .ensures) ∙ c .before .before .if1 .left) in
+    let b = good-buffer (c .before .before .before .before .before .args .buf .now) (c .before .before .before .before .before .args .used) (c .before .before .before .before .before .pre) in
+    omega (arith, b .within, w, c .contents-at .ensures ∙ ap contentsAt (c .before .read-header .ensures))
+
+part-check-contents-end : tie.Need-part-check-contents-end
+part-check-contents-end c =
+    let w = header-room program (c .before .before .before .before .before .args .buf .now) (c .before .before .before .before .before .args .used) (sym (c .before .before .before .check-header .ensures) ∙ c .before .before .if1 .left) in
+    let b = good-buffer (c .before .before .before .before .before .args .buf .now) (c .before .before .before .before .before .args .used) (c .before .before .before .before .before .pre) in
+    omega (arith, b .within, w, c .contents-at .ensures ∙ ap contentsAt (c .before .read-header .ensures))
+
+check-contents-requires : tie.Need-check-contents-requires
+check-contents-requires c κs = search needs
+
+number-of-requires : tie.Need-number-of-requires
+number-of-requires c κs = search needs
+
+answer-requires-2 : tie.Need-answer-requires-2
+answer-requires-2 c κs = search needs
+
+returns-2 : tie.Need-returns-2
+returns-2 c =
+    let h = c .before .before .before .before .before .read-header in
+    let start = c .before .before .before .before .contents-at in
+    c .answer2 .ensures
+    ∙ ap (λ (n : ℕ). checkedBy n (h .result .k)) (c .before .number-of .ensures ∙ ap numberOf (c .before .before .check-contents .ensures) ∙ number-verdict (blockInRange (h .result .k)) (blockIn (between (c .before .before .before .before .before .before .before .before .before .args .buf .now) (start .result) (c .before .before .before .before .before .before .before .before .before .args .used))))
+    ∙ sym (check-program-contents (c .before .before .before .before .before .before .before .before .before .args .buf .now) (c .before .before .before .before .before .before .before .before .before .args .used) (c .before .before .before .before .before .before .before .before .before .pre) (sym (c .before .before .before .before .before .before .before .check-header .ensures) ∙ c .before .before .before .before .before .before .if1 .left) (h .result) (h .ensures) (start .result) (start .ensures))
+
+pub check-record-spec : {M : Type 1} → statement M
+check-record-spec =
+    tie.close
+    (tie.spec
+    check-header-requires
+    answer-requires
+    returns
+    read-header-requires
+    contents-at-requires
+    sub-check-contents
+    part-check-contents-start
+    part-check-contents-end
+    check-contents-requires
+    number-of-requires
+    answer-requires-2
+    returns-2)
