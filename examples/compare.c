@@ -1,16 +1,25 @@
-/* One program on both engines, as an integrator would write it: weighed, translated, the store substituted, run in slices of
- * different lengths, and compared whenever both have made the same number of steps. `./test` builds and runs it:
+/* One program on both engines, as an integrator would write it: checked, translated, the store substituted, run in slices of
+ * different lengths, and compared whenever both have made the same number of steps. It ends whatever the outcomes are, and names
+ * them. `./test` builds and runs it:
  *
  *    cc -I include examples/compare.c target/staticlib/libvistrokk.a -o compare
+ *    ./compare [FILE [BUDGET [STEPPER_ROOM [REDUCER_ROOM]]]]
+ *
+ * FILE: a program's record and its k values, as in inputs/ (docs/FORMAT.md); without one, ADD on 7, 3, 0, 0, the 7 weighed. BUDGET: the
+ * most steps of each engine, 1,000,000 if not given. The rooms: the bytes of each engine's buffer, 16,384 if not given.
+ * Exit status: 0 when both have stopped and agree, 1 with a refusal or where they differ, 2 if it cannot read what it was given.
  */
 #include <stdio.h>
+#include <stdlib.h>
 #include <string.h>
 
 #include "vistrokk.h"
 
-#define ROOM 16384
+/* How many steps an engine gets at a time: two numbers, so that the engines are seldom level. */
+#define STEPPER_SLICE 3
+#define REDUCER_SLICE 2
 
-/* k = 4, {x3 := x1; for x4 := 1 to x2 {x3 := x3 + 1}}, as document 01 lays its records out. */
+/* k = 4, {x3 := x1; for x4 := 1 to x2 {x3 := x3 + 1}}. */
 static const uint8_t add[64] = {
     64, 0, 7,  0, 4, 0, 0, 0,                            /* program: 64 bytes, kind 7, k = 4 */
     56, 0, 1,  0,                                        /* block */
@@ -20,73 +29,230 @@ static const uint8_t add[64] = {
     16, 0, 2,  0, 3, 0, 0, 0, 8, 0, 18, 0, 3, 0, 0, 0,   /* x3 := x3 + 1 */
 };
 
-/* The stepper's buffer, the reducer's, and one for the comparison. */
-static uint8_t program[ROOM], term[ROOM], wanted[ROOM];
+static const char *const refusals[] = {
+    [VISTROKK_ACCEPTED] = "accepted",
+    [VISTROKK_BAD_BUFFER] = "bad buffer",
+    [VISTROKK_BAD_HEADER] = "bad header",
+    [VISTROKK_BAD_K] = "bad k",
+    [VISTROKK_MALFORMED] = "malformed",
+    [VISTROKK_BAD_VARIABLE] = "bad variable",
+    [VISTROKK_BAD_STORE] = "bad store",
+    [VISTROKK_FREE_VARIABLE] = "free variable",
+    [VISTROKK_UNFINISHED] = "unfinished",
+    [VISTROKK_NO_PROGRAM] = "no program",
+    [VISTROKK_OUTPUT_TOO_SHORT] = "output too short",
+};
+
+static const char *const outcomes[] = {
+    [VISTROKK_REFUSED] = "refused",
+    [VISTROKK_FINISHED] = "finished",
+    [VISTROKK_OVER] = "over",
+    [VISTROKK_NO_ROOM] = "noroom",
+    [VISTROKK_SPENT] = "spent",
+};
+
+/* What both engines start from. */
+typedef struct {
+    uint8_t record[VISTROKK_BUFFER_MOST];
+    uint32_t used, k;
+    uint32_t store[VISTROKK_VARIABLES_MOST];
+} load;
+
+/* An engine: its buffer, the budget it was not yet given, the steps it made in all, and the answer to its last order. */
+typedef struct {
+    uint8_t buf[VISTROKK_BUFFER_MOST];
+    size_t room;
+    uint32_t left, steps;
+    vistrokk_ran last;
+} engine;
+
+static load start;
+static engine stepper, reducer;
+static uint32_t store[VISTROKK_VARIABLES_MOST];
 
 static int refused(const char *call, uint32_t number)
 {
-    fprintf(stderr, "%s: refused %u\n", call, (unsigned) number);
+    fprintf(stderr, "%s: refused %u (%s)\n", call, (unsigned) number, refusals[number]);
     return 1;
 }
 
-/* Is the reducer's term the translation of the stepper's program with the store substituted? */
-static int agree(size_t program_used, size_t term_used, const uint32_t *store)
+static uint32_t word(const uint8_t *at)
 {
-    vistrokk_written w = vistrokk_translate(program, ROOM, program_used, wanted, ROOM);
-    if (w.number != 0)
-        return 0;
-    w = vistrokk_substitute(wanted, ROOM, w.used, store, 4);
-    return w.number == 0 && w.used == term_used && memcmp(wanted, term, ROOM) == 0;
+    return at[0] | (uint32_t) at[1] << 8 | (uint32_t) at[2] << 16 | (uint32_t) at[3] << 24;
 }
 
-int main(void)
+/* ADD, and a store whose first value comes from the scales. */
+static uint32_t weighed(void)
 {
-    uint32_t store[4], shown[4], number;
-    uint32_t steps = 0, reductions = 0, compared = 0;
-    vistrokk_written w;
-    vistrokk_ran s, r;
+    uint32_t number;
+    memcpy(start.record, add, sizeof add);
+    start.used = sizeof add;
+    start.k = 4;
+    number = vistrokk_weigh(1500, 1360, start.store, start.k);
+    start.store[1] = 3;
+    return number;
+}
 
-    memcpy(program, add, sizeof add);
-    number = vistrokk_weigh(1500, 1360, store, 4);
-    if (number != 0)
-        return refused("weigh", number);
-    store[1] = 3;
-    w = vistrokk_translate(program, ROOM, sizeof add, term, ROOM);
-    if (w.number != 0)
-        return refused("translate", w.number);
-    w = vistrokk_substitute(term, ROOM, w.used, store, 4);
-    if (w.number != 0)
-        return refused("substitute", w.number);
+/* The record and its values from the bytes of a file. */
+static uint32_t taken_from(const uint8_t *bytes, size_t count)
+{
+    vistrokk_checked checked;
+    uint32_t i;
+    if (count < 2)
+        return VISTROKK_BAD_HEADER;
+    start.used = bytes[0] | (uint32_t) bytes[1] << 8;
+    if (start.used > VISTROKK_BUFFER_MOST)
+        return VISTROKK_BAD_BUFFER;
+    if (start.used > count)
+        return VISTROKK_BAD_HEADER;
+    memcpy(start.record, bytes, start.used);
+    checked = vistrokk_check_program(start.record, sizeof start.record, start.used);
+    if (checked.number != VISTROKK_ACCEPTED)
+        return checked.number;
+    if (count - start.used != 4 * checked.k)
+        return VISTROKK_BAD_STORE;
+    start.k = checked.k;
+    for (i = 0; i < start.k; i++)
+        start.store[i] = word(bytes + start.used + 4 * i);
+    return VISTROKK_ACCEPTED;
+}
 
-    /* A budget of 0 makes no step: it tells where each engine stands. */
-    s = vistrokk_run_stepper(program, ROOM, sizeof add, store, 4, 0);
-    r = vistrokk_run_reducer(term, ROOM, w.used, 0);
-    while (s.number == 0 && r.number == 0) {
-        if (steps == reductions) {
-            if (!agree(s.used, r.used, store)) {
-                fprintf(stderr, "the engines differ after %u steps\n", (unsigned) steps);
-                return 1;
-            }
-            compared++;
-        }
-        if (s.outcome == VISTROKK_FINISHED && r.outcome == VISTROKK_FINISHED)
-            break;
-        if (s.outcome != VISTROKK_FINISHED && steps <= reductions) {
-            s = vistrokk_run_stepper(program, ROOM, s.used, store, 4, 3);
-            steps += s.steps;
-        } else {
-            r = vistrokk_run_reducer(term, ROOM, r.used, 2);
-            reductions += r.steps;
-        }
-    }
-    if (s.number != 0 || r.number != 0)
-        return refused("run", s.number != 0 ? s.number : r.number);
-    number = vistrokk_result(term, ROOM, r.used, shown, 4);
-    if (number != 0)
-        return refused("result", number);
-    if (memcmp(shown, store, sizeof shown) != 0)
-        return 1;
-    printf("finished after %u and %u steps, compared %u times: %u %u %u %u\n", (unsigned) steps, (unsigned) reductions,
-           (unsigned) compared, (unsigned) store[0], (unsigned) store[1], (unsigned) store[2], (unsigned) store[3]);
+/* Both engines at their start: the stepper has the program and the store, the reducer the program's term with the store's values in
+ * it. A budget of 0 makes no step: it tells where each engine stands. */
+static int begin(void)
+{
+    vistrokk_written term;
+    memcpy(stepper.buf, start.record, start.used);
+    memcpy(store, start.store, sizeof store);
+    stepper.last = vistrokk_run_stepper(stepper.buf, stepper.room, start.used, store, start.k, 0);
+    if (stepper.last.number != VISTROKK_ACCEPTED)
+        return refused("run_stepper", stepper.last.number);
+    term = vistrokk_translate(start.record, sizeof start.record, start.used, reducer.buf, reducer.room);
+    if (term.number != VISTROKK_ACCEPTED)
+        return refused("translate", term.number);
+    term = vistrokk_substitute(reducer.buf, reducer.room, term.used, store, start.k);
+    if (term.number != VISTROKK_ACCEPTED)
+        return refused("substitute", term.number);
+    reducer.last = vistrokk_run_reducer(reducer.buf, reducer.room, term.used, 0);
+    if (reducer.last.number != VISTROKK_ACCEPTED)
+        return refused("run_reducer", reducer.last.number);
     return 0;
+}
+
+/* Only a spent engine can go on: finished, over and no room are what its state says, and every further order would say so again. */
+static int goes_on(const engine *e)
+{
+    return e->last.outcome == VISTROKK_SPENT && e->left > 0;
+}
+
+/* The budget of an engine's next order. It counts as given whatever the answer is, so the orders come to an end. */
+static uint32_t slice(engine *e, uint32_t most)
+{
+    uint32_t budget = most < e->left ? most : e->left;
+    e->left -= budget;
+    return budget;
+}
+
+/* Is the reducer's term the translation of the stepper's program with the store substituted? */
+static int agree(void)
+{
+    static uint8_t wanted[VISTROKK_BUFFER_MOST];
+    vistrokk_written w = vistrokk_translate(stepper.buf, stepper.room, stepper.last.used, wanted, sizeof wanted);
+    if (w.number != VISTROKK_ACCEPTED)
+        return 0;
+    w = vistrokk_substitute(wanted, sizeof wanted, w.used, store, start.k);
+    return w.number == VISTROKK_ACCEPTED && w.used == reducer.last.used && memcmp(wanted, reducer.buf, w.used) == 0;
+}
+
+/* One order to the engine that is behind, or to the other where that one has stopped; 0 where both have. */
+static int next_order(void)
+{
+    if (goes_on(&stepper) && (stepper.steps <= reducer.steps || !goes_on(&reducer))) {
+        stepper.last = vistrokk_run_stepper(stepper.buf, stepper.room, stepper.last.used, store, start.k,
+                                            slice(&stepper, STEPPER_SLICE));
+        stepper.steps += stepper.last.steps;
+        return 1;
+    }
+    if (goes_on(&reducer)) {
+        reducer.last = vistrokk_run_reducer(reducer.buf, reducer.room, reducer.last.used, slice(&reducer, REDUCER_SLICE));
+        reducer.steps += reducer.last.steps;
+        return 1;
+    }
+    return 0;
+}
+
+/* Where both have finished, the reducer's values are the stepper's store. */
+static int same_result(void)
+{
+    uint32_t shown[VISTROKK_VARIABLES_MOST];
+    if (stepper.last.outcome != VISTROKK_FINISHED || reducer.last.outcome != VISTROKK_FINISHED)
+        return 1;
+    return vistrokk_result(reducer.buf, reducer.room, reducer.last.used, shown, start.k) == VISTROKK_ACCEPTED &&
+           memcmp(shown, store, start.k * sizeof store[0]) == 0;
+}
+
+static int compare(void)
+{
+    uint32_t compared = 0, i;
+    do {
+        int level = stepper.steps == reducer.steps;
+        if (level && !agree()) {
+            fprintf(stderr, "the engines differ after %u steps\n", (unsigned) stepper.steps);
+            return 1;
+        }
+        compared += level;
+    } while (next_order());
+    if (stepper.last.number != VISTROKK_ACCEPTED)
+        return refused("run_stepper", stepper.last.number);
+    if (reducer.last.number != VISTROKK_ACCEPTED)
+        return refused("run_reducer", reducer.last.number);
+    if (!same_result()) {
+        fprintf(stderr, "the engines show different results\n");
+        return 1;
+    }
+    printf("stepper %s after %u, reducer %s after %u, comparisons: %u, store:", outcomes[stepper.last.outcome],
+           (unsigned) stepper.steps, outcomes[reducer.last.outcome], (unsigned) reducer.steps, (unsigned) compared);
+    for (i = 0; i < start.k; i++)
+        printf(" %u", (unsigned) store[i]);
+    printf("\n");
+    return 0;
+}
+
+/* The number that an argument says, `otherwise` where there is none. */
+static uint32_t argument(int argc, char **argv, int which, uint32_t most, uint32_t otherwise)
+{
+    char *end;
+    unsigned long number;
+    if (which >= argc)
+        return otherwise;
+    number = strtoul(argv[which], &end, 10);
+    if (end == argv[which] || *end != '\0' || number > most) {
+        fprintf(stderr, "%s is not a number from 0 to %u\n", argv[which], (unsigned) most);
+        exit(2);
+    }
+    return (uint32_t) number;
+}
+
+int main(int argc, char **argv)
+{
+    static uint8_t bytes[VISTROKK_BUFFER_MOST + 4 * VISTROKK_VARIABLES_MOST + 1];
+    uint32_t number;
+    stepper.left = reducer.left = argument(argc, argv, 2, UINT32_MAX, 1000000);
+    stepper.room = argument(argc, argv, 3, VISTROKK_BUFFER_MOST, VISTROKK_BUFFER_MOST);
+    reducer.room = argument(argc, argv, 4, VISTROKK_BUFFER_MOST, VISTROKK_BUFFER_MOST);
+    if (argc > 1) {
+        FILE *file = fopen(argv[1], "rb");
+        size_t count = file == NULL ? 0 : fread(bytes, 1, sizeof bytes, file);
+        if (file == NULL || ferror(file)) {
+            fprintf(stderr, "cannot read %s\n", argv[1]);
+            return 2;
+        }
+        fclose(file);
+        number = taken_from(bytes, count);
+    } else {
+        number = weighed();
+    }
+    if (number != VISTROKK_ACCEPTED)
+        return refused("the load", number);
+    return begin() != 0 || compare() != 0;
 }

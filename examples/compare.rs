@@ -1,9 +1,48 @@
-//! The same as compare.c, in Rust. `./test` builds and runs it:
+//! The same as compare.c, in Rust, with the same arguments, lines and exit status. `./test` builds and runs it:
 //!
 //!     rustc -O -L native=target/staticlib -l static=vistrokk examples/compare.rs
+//!     ./compare [FILE [BUDGET [STEPPER_ROOM [REDUCER_ROOM]]]]
 
-const ROOM: usize = 16_384;
+use std::process::exit;
+
+// The constants of include/vistrokk.h, as far as they are needed here.
+const BUFFER_MOST: usize = 16_384;
+
+const ACCEPTED: u32 = 0;
+const BAD_BUFFER: u32 = 1;
+const BAD_HEADER: u32 = 2;
+const BAD_STORE: u32 = 6;
+
 const FINISHED: u32 = 1;
+const SPENT: u32 = 4;
+
+/// The refusals by name, in the order of their numbers.
+const REFUSALS: [&str; 11] = [
+    "accepted",
+    "bad buffer",
+    "bad header",
+    "bad k",
+    "malformed",
+    "bad variable",
+    "bad store",
+    "free variable",
+    "unfinished",
+    "no program",
+    "output too short",
+];
+
+/// The outcomes by name, in the order of their numbers.
+const OUTCOMES: [&str; 5] = ["refused", "finished", "over", "noroom", "spent"];
+
+/// How many steps an engine gets at a time: two numbers, so that the engines are seldom level.
+const STEPPER_SLICE: u32 = 3;
+const REDUCER_SLICE: u32 = 2;
+
+#[repr(C)]
+struct Checked {
+    number: u32,
+    k: u32,
+}
 
 #[repr(C)]
 struct Written {
@@ -12,6 +51,7 @@ struct Written {
 }
 
 #[repr(C)]
+#[allow(dead_code)] // The budget left is not looked at here.
 struct Ran {
     number: u32,
     outcome: u32,
@@ -21,6 +61,7 @@ struct Ran {
 }
 
 extern "C" {
+    fn vistrokk_check_program(buf: *const u8, buf_len: usize, used: usize) -> Checked;
     fn vistrokk_weigh(gross: u32, tare: u32, store: *mut u32, store_len: usize) -> u32;
     fn vistrokk_translate(
         src: *const u8,
@@ -54,7 +95,12 @@ extern "C" {
     ) -> u32;
 }
 
-// Safe forms of the calls: slices that do not overlap, as the borrow checker sees to.
+// Safe forms of the calls: slices that do not overlap, as the borrow checker sees to. The address of an empty slice is not that of
+// any memory, and no call looks there.
+
+fn check_program(buf: &[u8], used: usize) -> Checked {
+    unsafe { vistrokk_check_program(buf.as_ptr(), buf.len(), used) }
+}
 
 fn weigh(gross: u32, tare: u32, store: &mut [u32]) -> u32 {
     unsafe { vistrokk_weigh(gross, tare, store.as_mut_ptr(), store.len()) }
@@ -65,15 +111,8 @@ fn translate(src: &[u8], used: usize, out: &mut [u8]) -> Written {
 }
 
 fn substitute(buf: &mut [u8], used: usize, store: &[u32]) -> Written {
-    unsafe {
-        vistrokk_substitute(
-            buf.as_mut_ptr(),
-            buf.len(),
-            used,
-            store.as_ptr(),
-            store.len(),
-        )
-    }
+    let (values, count) = (store.as_ptr(), store.len());
+    unsafe { vistrokk_substitute(buf.as_mut_ptr(), buf.len(), used, values, count) }
 }
 
 fn run_stepper(buf: &mut [u8], used: usize, store: &mut [u32], budget: u32) -> Ran {
@@ -86,65 +125,248 @@ fn run_reducer(buf: &mut [u8], used: usize, budget: u32) -> Ran {
 }
 
 fn result(buf: &[u8], used: usize, store: &mut [u32]) -> u32 {
-    unsafe {
-        vistrokk_result(
-            buf.as_ptr(),
-            buf.len(),
-            used,
-            store.as_mut_ptr(),
-            store.len(),
-        )
-    }
+    let (values, count) = (store.as_mut_ptr(), store.len());
+    unsafe { vistrokk_result(buf.as_ptr(), buf.len(), used, values, count) }
 }
 
-/// k = 4, {x3 := x1; for x4 := 1 to x2 {x3 := x3 + 1}}, as document 01 lays its records out.
+/// k = 4, {x3 := x1; for x4 := 1 to x2 {x3 := x3 + 1}}; compare.c says which bytes are what.
 const ADD: [u8; 64] = [
     64, 0, 7, 0, 4, 0, 0, 0, 56, 0, 1, 0, 16, 0, 2, 0, 3, 0, 0, 0, 8, 0, 17, 0, 1, 0, 0, 0, 36, 0,
     3, 0, 4, 0, 0, 0, 8, 0, 17, 0, 2, 0, 0, 0, 20, 0, 1, 0, 16, 0, 2, 0, 3, 0, 0, 0, 8, 0, 18, 0,
     3, 0, 0, 0,
 ];
 
-fn main() {
-    let (mut program, mut term, mut wanted) = (vec![0; ROOM], vec![0; ROOM], vec![0; ROOM]);
-    program[..ADD.len()].copy_from_slice(&ADD);
-    let mut store = [0; 4];
-    assert_eq!(weigh(1_500, 1_360, &mut store), 0);
-    store[1] = 3;
-    let written = translate(&program, ADD.len(), &mut term);
-    assert_eq!(written.number, 0);
-    let written = substitute(&mut term, written.used as usize, &store);
-    assert_eq!(written.number, 0);
+/// What both engines start from: a program's record and its values.
+struct Load {
+    record: Vec<u8>,
+    store: Vec<u32>,
+}
 
-    // A budget of 0 makes no step: it tells where each engine stands.
-    let mut stepper = run_stepper(&mut program, ADD.len(), &mut store, 0);
-    let mut reducer = run_reducer(&mut term, written.used as usize, 0);
-    let (mut steps, mut reductions, mut compared) = (0, 0, 0);
+/// A refusal's number, with the call that gave it.
+type Refused = (&'static str, u32);
+
+/// The answer's number as a refusal, unless it is 0.
+fn accepted(call: &'static str, number: u32) -> Result<(), Refused> {
+    match number {
+        ACCEPTED => Ok(()),
+        number => Err((call, number)),
+    }
+}
+
+/// ADD, and a store whose first value comes from the scales.
+fn weighed() -> Result<Load, Refused> {
+    let mut store = vec![0; 4];
+    accepted("the load", weigh(1_500, 1_360, &mut store))?;
+    store[1] = 3;
+    let record = ADD.to_vec();
+    Ok(Load { record, store })
+}
+
+/// The record and its values from the bytes of a file.
+fn taken_from(bytes: &[u8]) -> Result<Load, Refused> {
+    let refused = |number| ("the load", number);
+    let first: &[u8; 2] = bytes.first_chunk().ok_or(refused(BAD_HEADER))?;
+    let used = usize::from(u16::from_le_bytes(*first));
+    if used > BUFFER_MOST {
+        return Err(refused(BAD_BUFFER));
+    }
+    let (record, values) = bytes.split_at_checked(used).ok_or(refused(BAD_HEADER))?;
+    let checked = check_program(record, used);
+    accepted("the load", checked.number)?;
+    if values.len() != 4 * checked.k as usize {
+        return Err(refused(BAD_STORE));
+    }
+    let word = |at: &[u8]| u32::from_le_bytes([at[0], at[1], at[2], at[3]]);
+    Ok(Load {
+        record: record.to_vec(),
+        store: values.chunks(4).map(word).collect(),
+    })
+}
+
+/// An engine: its buffer, the budget it was not yet given, the steps it made in all, and the answer to its last order.
+struct Engine {
+    buf: Vec<u8>,
+    left: u32,
+    steps: u32,
+    last: Ran,
+}
+
+impl Engine {
+    fn used(&self) -> usize {
+        self.last.used as usize
+    }
+
+    /// Only a spent engine can go on: finished, over and no room are what its state says, and every further order would say so
+    /// again.
+    fn goes_on(&self) -> bool {
+        self.last.outcome == SPENT && self.left > 0
+    }
+
+    /// The budget of the next order. It counts as given whatever the answer is, so the orders come to an end.
+    fn slice(&mut self, most: u32) -> u32 {
+        let budget = most.min(self.left);
+        self.left -= budget;
+        budget
+    }
+
+    fn answered(&mut self, ran: Ran) {
+        self.steps += ran.steps;
+        self.last = ran;
+    }
+}
+
+struct Engines {
+    stepper: Engine,
+    reducer: Engine,
+    store: Vec<u32>,
+}
+
+impl Engines {
+    /// Both at their start: the stepper has the program and the store, the reducer the program's term with the store's values in
+    /// it. A budget of 0 makes no step: it tells where each engine stands.
+    fn begin(load: Load, budget: u32, rooms: [usize; 2]) -> Result<Engines, Refused> {
+        let used = load.record.len();
+        let mut program = load.record.clone();
+        program.resize(BUFFER_MOST, 0);
+        program.truncate(rooms[0]);
+        let (mut store, mut term) = (load.store, vec![0; rooms[1]]);
+        let stepper = run_stepper(&mut program, used, &mut store, 0);
+        accepted("run_stepper", stepper.number)?;
+        let written = translate(&load.record, used, &mut term);
+        accepted("translate", written.number)?;
+        let written = substitute(&mut term, written.used as usize, &store);
+        accepted("substitute", written.number)?;
+        let reducer = run_reducer(&mut term, written.used as usize, 0);
+        accepted("run_reducer", reducer.number)?;
+        let engine = |buf, last| Engine {
+            buf,
+            left: budget,
+            steps: 0,
+            last,
+        };
+        Ok(Engines {
+            stepper: engine(program, stepper),
+            reducer: engine(term, reducer),
+            store,
+        })
+    }
+
+    /// Is the reducer's term the translation of the stepper's program with the store substituted?
+    fn agree(&self) -> bool {
+        let mut wanted = vec![0; BUFFER_MOST];
+        let translated = translate(&self.stepper.buf, self.stepper.used(), &mut wanted);
+        if translated.number != ACCEPTED {
+            return false;
+        }
+        let written = substitute(&mut wanted, translated.used as usize, &self.store);
+        let used = written.used as usize;
+        written.number == ACCEPTED
+            && used == self.reducer.used()
+            && wanted[..used] == self.reducer.buf[..used]
+    }
+
+    /// One order to the engine that is behind, or to the other where that one has stopped; false where both have.
+    fn next_order(&mut self) -> bool {
+        let Engines {
+            stepper,
+            reducer,
+            store,
+        } = self;
+        if stepper.goes_on() && (stepper.steps <= reducer.steps || !reducer.goes_on()) {
+            let (used, budget) = (stepper.used(), stepper.slice(STEPPER_SLICE));
+            let ran = run_stepper(&mut stepper.buf, used, store, budget);
+            stepper.answered(ran);
+            return true;
+        }
+        if reducer.goes_on() {
+            let (used, budget) = (reducer.used(), reducer.slice(REDUCER_SLICE));
+            let ran = run_reducer(&mut reducer.buf, used, budget);
+            reducer.answered(ran);
+            return true;
+        }
+        false
+    }
+
+    /// Where both have finished, the reducer's values are the stepper's store.
+    fn same_result(&self) -> bool {
+        if [self.stepper.last.outcome, self.reducer.last.outcome] != [FINISHED; 2] {
+            return true;
+        }
+        let mut shown = vec![0; self.store.len()];
+        let number = result(&self.reducer.buf, self.reducer.used(), &mut shown);
+        number == ACCEPTED && shown == self.store
+    }
+}
+
+fn compare(engines: &mut Engines) -> Result<(), Refused> {
+    let mut compared = 0;
     loop {
-        assert_eq!((stepper.number, reducer.number), (0, 0));
-        if steps == reductions {
-            let translated = translate(&program, stepper.used as usize, &mut wanted);
-            let filled = substitute(&mut wanted, translated.used as usize, &store);
-            assert_eq!(filled.number, 0);
-            assert_eq!((filled.used, &wanted), (reducer.used, &term));
+        if engines.stepper.steps == engines.reducer.steps {
+            if !engines.agree() {
+                eprintln!("the engines differ after {} steps", engines.stepper.steps);
+                exit(1);
+            }
             compared += 1;
         }
-        if stepper.outcome == FINISHED && reducer.outcome == FINISHED {
+        if !engines.next_order() {
             break;
         }
-        if stepper.outcome != FINISHED && steps <= reductions {
-            stepper = run_stepper(&mut program, stepper.used as usize, &mut store, 3);
-            steps += stepper.steps;
-        } else {
-            reducer = run_reducer(&mut term, reducer.used as usize, 2);
-            reductions += reducer.steps;
-        }
-        assert!(stepper.left <= 3 && reducer.left <= 2);
     }
-    let mut shown = [0; 4];
-    assert_eq!(result(&term, reducer.used as usize, &mut shown), 0);
-    assert_eq!(shown, store);
-    let [a, b, c, d] = store;
-    println!(
-        "finished after {steps} and {reductions} steps, compared {compared} times: {a} {b} {c} {d}"
+    let (stepper, reducer) = (&engines.stepper, &engines.reducer);
+    accepted("run_stepper", stepper.last.number)?;
+    accepted("run_reducer", reducer.last.number)?;
+    if !engines.same_result() {
+        eprintln!("the engines show different results");
+        exit(1);
+    }
+    let outcome = |engine: &Engine| OUTCOMES[engine.last.outcome as usize];
+    print!(
+        "stepper {} after {}, reducer {} after {}, comparisons: {compared}, store:",
+        outcome(stepper),
+        stepper.steps,
+        outcome(reducer),
+        reducer.steps
     );
+    for value in &engines.store {
+        print!(" {value}");
+    }
+    println!();
+    Ok(())
+}
+
+/// The number that an argument says, `otherwise` where there is none.
+fn argument(arguments: &[String], which: usize, most: u32, otherwise: u32) -> u32 {
+    let Some(argument) = arguments.get(which) else {
+        return otherwise;
+    };
+    match argument.parse() {
+        Ok(number) if number <= most => number,
+        _ => {
+            eprintln!("{argument} is not a number from 0 to {most}");
+            exit(2)
+        }
+    }
+}
+
+fn read(name: &str) -> Vec<u8> {
+    std::fs::read(name).unwrap_or_else(|_| {
+        eprintln!("cannot read {name}");
+        exit(2)
+    })
+}
+
+fn main() {
+    let arguments: Vec<String> = std::env::args().collect();
+    let most = BUFFER_MOST as u32;
+    let budget = argument(&arguments, 2, u32::MAX, 1_000_000);
+    let rooms = [3, 4].map(|which| argument(&arguments, which, most, most) as usize);
+    let load = match arguments.get(1) {
+        Some(name) => taken_from(&read(name)),
+        None => weighed(),
+    };
+    let begun = load.and_then(|load| Engines::begin(load, budget, rooms));
+    if let Err((call, number)) = begun.and_then(|mut engines| compare(&mut engines)) {
+        eprintln!("{call}: refused {number} ({})", REFUSALS[number as usize]);
+        exit(1);
+    }
 }

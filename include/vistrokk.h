@@ -1,24 +1,15 @@
-/* The calls of the Vistrokk library. Link libvistrokk.a (made by `rt staticlib vistrokk`).
+/* The calls of the Vistrokk library. Link libvistrokk.a: `rt staticlib vistrokk` makes it, for x86-64 (ELF, System V calls).
+ * docs/FORMAT.md says what the records are.
  *
- * Lent memory: a buffer is a pointer and its length in bytes; its first `used` bytes are the record. Buffers are at most
- * 16,384 bytes long. Memory lent to one call must not overlap. NULL may be lent only with length 0. No call keeps a pointer,
- * none allocates, and none needs more than about 2 KB of stack (translate: 3 KB).
+ * Lent memory: a buffer is a pointer and its length in bytes; its first `used` bytes are the record. A store is a pointer to
+ * 32-bit values, aligned to 4 bytes, and their number; its first value is variable 1's. Memory lent to one call must not overlap.
+ * NULL may be lent only with length 0. No call keeps a pointer.
  *
- * Every call ends, and answers 0 or the number of the first refusal that applies. A refusal gives 0 for everything else and
- * changes no byte that was lent.
+ * Reentrant, no statics, no allocation: the archive has code and constants alone, and the one symbol that it needs from outside
+ * is memset. No call needs more than about 2 KB of stack (translate: 3 KB).
  *
- *    1  a buffer above 16,384 bytes, or `used` above its buffer
- *    2  under 8 bytes used, or wrong kind, or the length in the record is not `used`
- *    3  k not 1 to 16
- *    4  bytes outside the grammar
- *    5  a variable number not 1 to k
- *    6  the store has not k values; weighing: not 1 to 16
- *    7  a free variable
- *    8  not finished
- *    9  no program translates to it
- *   10  the answer is longer than the output buffer
- *
- * A store is a pointer to 32-bit values, aligned to 4 bytes, and their number; its first value is variable 1's.
+ * Every call ends, and answers VISTROKK_ACCEPTED or the number of the first refusal that applies. A refusal gives 0 for everything
+ * else and changes no byte that was lent.
  */
 #ifndef VISTROKK_H
 #define VISTROKK_H
@@ -30,7 +21,26 @@
 extern "C" {
 #endif
 
-/* number: 0 or the refusal; k: the record's number of variables, 0 with a refusal. */
+/* The longest buffer that may be lent, in bytes, and the most variables of a program; a store has at most as many values. */
+#define VISTROKK_BUFFER_MOST 16384
+#define VISTROKK_VARIABLES_MOST 16
+
+/* The refusals: the number that a call answers. They are tested in this order. */
+enum vistrokk_refusal {
+    VISTROKK_ACCEPTED = 0,
+    VISTROKK_BAD_BUFFER = 1,       /* a buffer above 16,384 bytes, or `used` above its buffer */
+    VISTROKK_BAD_HEADER = 2,       /* under 8 bytes used, or wrong kind, or the length in the record is not `used` */
+    VISTROKK_BAD_K = 3,            /* k not 1 to 16 */
+    VISTROKK_MALFORMED = 4,        /* bytes outside the grammar, variable numbers disregarded */
+    VISTROKK_BAD_VARIABLE = 5,     /* a variable number not 1 to k */
+    VISTROKK_BAD_STORE = 6,        /* the store has not k values; weighing: not 1 to 16 */
+    VISTROKK_FREE_VARIABLE = 7,    /* a free variable in the term */
+    VISTROKK_UNFINISHED = 8,       /* the term is not finished */
+    VISTROKK_NO_PROGRAM = 9,       /* no program translates to the term */
+    VISTROKK_OUTPUT_TOO_SHORT = 10 /* the answer is longer than the output buffer */
+};
+
+/* number: VISTROKK_ACCEPTED or the refusal; k: the record's number of variables, 0 with a refusal. */
 typedef struct { uint32_t number, k; } vistrokk_checked;
 
 /* Is it a program's record, of k variables? Refusals 1 to 5. Writes nothing. */
@@ -39,8 +49,8 @@ vistrokk_checked vistrokk_check_program(const uint8_t *buf, size_t buf_len, size
 /* Is it a term's record, of k variables? Refusals 1 to 5. Writes nothing. */
 vistrokk_checked vistrokk_check_term(const uint8_t *buf, size_t buf_len, size_t used);
 
-/* number: 0 or the refusal; used: the length of the record in the written buffer, 0 with a refusal. Every byte behind that record
- * is zero. */
+/* number: VISTROKK_ACCEPTED or the refusal; used: the length of the record in the written buffer, 0 with a refusal. Every byte
+ * behind that record is zero. */
 typedef struct { uint32_t number, used; } vistrokk_written;
 
 /* The term of the program in `src`, into `out`. Refusals 1 (either buffer), 2 to 5 and 10. Writes `out` alone. */
@@ -53,20 +63,26 @@ vistrokk_written vistrokk_read_back(const uint8_t *src, size_t src_len, size_t u
 /* The store's values for the free variables of the term in `buf`, in place: `used` stays. Refusals 1 to 6. Writes `buf` alone. */
 vistrokk_written vistrokk_substitute(uint8_t *buf, size_t buf_len, size_t used, const uint32_t *store, size_t store_len);
 
-/* The values of the finished term in `buf`, into the store. Answers 0, or a refusal 1 to 8 with the store as it was. Writes the
- * store alone. */
+/* The values of the finished term in `buf`, into the store. Answers VISTROKK_ACCEPTED, or a refusal 1 to 8 with the store as it
+ * was. Writes the store alone. */
 uint32_t vistrokk_result(const uint8_t *buf, size_t buf_len, size_t used, uint32_t *store, size_t store_len);
 
 /* A start store from gross and tare in kilograms: variable 1 gets (gross - tare) / 20, rounded down, 0 if tare is the larger;
- * every other variable 0. Answers 0, or 6 with the store as it was. */
+ * every other variable 0. Answers VISTROKK_ACCEPTED, or VISTROKK_BAD_STORE with the store as it was. */
 uint32_t vistrokk_weigh(uint32_t gross, uint32_t tare, uint32_t *store, size_t store_len);
 
 /* The outcomes of a run, read from the state that is left, first match. Over: the next step would give 4,294,967,296. No room:
  * the next state is longer than the buffer. Spent: the whole budget was used, and a further step is possible. */
-enum { VISTROKK_REFUSED = 0, VISTROKK_FINISHED = 1, VISTROKK_OVER = 2, VISTROKK_NO_ROOM = 3, VISTROKK_SPENT = 4 };
+enum vistrokk_outcome {
+    VISTROKK_REFUSED = 0,
+    VISTROKK_FINISHED = 1,
+    VISTROKK_OVER = 2,
+    VISTROKK_NO_ROOM = 3,
+    VISTROKK_SPENT = 4
+};
 
-/* How a run ended. number: 0 or the refusal. outcome: one of the above. steps: made in this run; left: budget left; used: the
- * new used length. These three are 0 with a refusal. */
+/* How a run ended. number: VISTROKK_ACCEPTED or the refusal. outcome: one of the above. steps: made in this run; left: budget
+ * left; used: the new used length. These three are 0 with a refusal. */
 typedef struct { uint32_t number, outcome, steps, left, used; } vistrokk_ran;
 
 /* Makes up to `budget` steps of a program. Lent: the program's record in buf, of which the whole of buf_len is room to grow,

@@ -1,28 +1,10 @@
 //! Links `../target/staticlib/libprobe.a`, which exports the buffer layer. The library itself is
-//! linked by `../tests`; the cfg `library` says that one of its calls has landed.
+//! linked by `../tests`.
 
-use std::env;
 use std::path::Path;
 use std::process::exit;
 
-/// The features of Cargo.toml, as cargo tells a build script of them.
-const CALLS: [&str; 5] = [
-    "CARGO_FEATURE_CHECK",
-    "CARGO_FEATURE_TERMS",
-    "CARGO_FEATURE_WEIGH",
-    "CARGO_FEATURE_STEPPER",
-    "CARGO_FEATURE_REDUCER",
-];
-
 fn main() {
-    println!("cargo:rustc-check-cfg=cfg(library)");
-    if CALLS.iter().any(|call| env::var_os(call).is_some()) {
-        println!("cargo:rustc-cfg=library");
-    }
-    link_probe();
-}
-
-fn link_probe() {
     let folder = Path::new(env!("CARGO_MANIFEST_DIR")).join("../target/staticlib");
     let archive = folder.join("libprobe.a");
     println!("cargo:rerun-if-changed=build.rs");

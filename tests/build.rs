@@ -1,6 +1,4 @@
-//! Links the proved library as soon as one of its calls is to be tested, and sets the cfg `library`.
-//!
-//! The archive is `../target/staticlib/libvistrokk.a`, or the file that VISTROKK_LIBRARY names.
+//! Links the proved library: `../target/staticlib/libvistrokk.a`, or the archive that VISTROKK_LIBRARY names.
 
 use std::env;
 use std::path::{Path, PathBuf};
@@ -8,23 +6,10 @@ use std::process::exit;
 
 const VARIABLE: &str = "VISTROKK_LIBRARY";
 
-/// The features of Cargo.toml, as cargo tells a build script of them.
-const CALLS: [&str; 5] = [
-    "CARGO_FEATURE_CHECK",
-    "CARGO_FEATURE_TERMS",
-    "CARGO_FEATURE_WEIGH",
-    "CARGO_FEATURE_STEPPER",
-    "CARGO_FEATURE_REDUCER",
-];
-
 fn main() {
     println!("cargo:rerun-if-changed=build.rs");
     println!("cargo:rerun-if-env-changed={VARIABLE}");
-    println!("cargo:rustc-check-cfg=cfg(library)");
-    if CALLS.iter().any(|call| env::var_os(call).is_some()) {
-        println!("cargo:rustc-cfg=library");
-        link(&archive());
-    }
+    link(&archive());
 }
 
 fn archive() -> PathBuf {
@@ -49,7 +34,7 @@ fn link(archive: &Path) {
 
 fn missing(archive: &Path) -> ! {
     eprintln!("The proved library is not there: {}", archive.display());
-    eprintln!("`rt staticlib vistrokk` at the top of the repository makes it;");
-    eprintln!("{VARIABLE} names another archive; without a feature no call of it is tested.");
+    eprintln!("Run `rt staticlib vistrokk` at the top of the repository: it proves the library and makes the archive.");
+    eprintln!("({VARIABLE} names another archive.)");
     exit(1)
 }

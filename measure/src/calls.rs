@@ -1,18 +1,13 @@
-//! Each call that has landed against the other program, and against a plain version on bytes where
+//! Each call against the other program, and against a plain version on bytes where
 //! there is one.
 //!
 //! A call that writes its input gets it anew each time, so the times of such a call have that of a
 //! copy of the buffer in them. Every buffer is 16,384 bytes long.
 
-#[cfg(feature = "check")]
 mod check;
-#[cfg(feature = "reducer")]
 mod reducer;
-#[cfg(feature = "stepper")]
 mod stepper;
-#[cfg(feature = "terms")]
 mod terms;
-#[cfg(feature = "weigh")]
 mod weigh;
 
 use crate::timing::best;
@@ -23,15 +18,10 @@ pub fn print() {
         "{:<15}{:<28}{:>11}{:>11}{:>7}{:>11}{:>7}",
         "", "on", "library", "other", "ratio", "plain", "ratio"
     );
-    #[cfg(feature = "check")]
     check::print();
-    #[cfg(feature = "terms")]
     terms::print();
-    #[cfg(feature = "weigh")]
     weigh::print();
-    #[cfg(feature = "stepper")]
     stepper::print();
-    #[cfg(feature = "reducer")]
     reducer::print();
     println!();
 }

@@ -12,7 +12,6 @@ fn main() {
     let arguments: Vec<String> = std::env::args().collect();
     let budget = arguments[2].parse().expect("a budget");
     match arguments[1].as_str() {
-        #[cfg(feature = "stepper")]
         "stepper" => {
             let record = add().encode();
             let mut store = [7, 400, 0, 0];
@@ -24,7 +23,6 @@ fn main() {
                 budget,
             ));
         }
-        #[cfg(feature = "reducer")]
         "reducer" => {
             let (program, store) = (add(), vec![7, 200, 0, 0]);
             let config = other::run::stepper::Config { program, store };

@@ -1,4 +1,4 @@
-//! Every call over bytes: the nine functions of DESIGN.md, section 6.
+//! Every call over bytes: the nine functions of `include/vistrokk.h`.
 //!
 //! Each one tests its rows in 01's order before it changes anything. A refusal gives its number
 //! and 0 for everything else, and leaves every lent slice as it came. After an accepted call the
@@ -39,22 +39,24 @@ pub struct Ran {
 // A refusal: its number, and 0 for everything else.
 
 impl Checked {
-    pub fn refused(number: u32) -> Checked {
+    pub fn refused(number: impl Into<u32>) -> Checked {
+        let number = number.into();
         Checked { number, k: 0 }
     }
 }
 
 impl Written {
-    pub fn refused(number: u32) -> Written {
+    pub fn refused(number: impl Into<u32>) -> Written {
+        let number = number.into();
         Written { number, used: 0 }
     }
 }
 
 impl Ran {
     /// The outcome is `refused`, and the budget is not handed back.
-    pub fn refused(number: u32) -> Ran {
+    pub fn refused(number: impl Into<u32>) -> Ran {
         Ran {
-            number,
+            number: number.into(),
             outcome: Outcome::Refused.number(),
             ..Ran::default()
         }
@@ -77,7 +79,7 @@ fn checked<R: Record>(answer: Result<R, Refusal>) -> Checked {
             number: 0,
             k: tree.k(),
         },
-        Err(refusal) => Checked::refused(refusal.number()),
+        Err(refusal) => Checked::refused(refusal),
     }
 }
 
@@ -113,7 +115,7 @@ fn source<R: Record>(src: &[u8], used: usize, room: usize) -> Result<R, Refusal>
 /// Row 10. The length is measured before anything is encoded: it may not fit in 16 bits.
 fn fitting<R: Record>(answer: &R, room: usize) -> Result<Vec<u8>, Refusal> {
     if answer.encoded_len() > room {
-        return Err(Refusal::Output);
+        return Err(Refusal::OutputTooShort);
     }
     Ok(answer.encode())
 }
@@ -136,7 +138,7 @@ fn substituted(buf: &[u8], used: usize, store: &[u32]) -> Result<Vec<u8>, Refusa
 pub fn run_stepper(buf: &mut [u8], used: usize, store: &mut [u32], budget: u32) -> Ran {
     let mut config = match configuration(buf, used, store) {
         Ok(config) => config,
-        Err(refusal) => return Ran::refused(refusal.number()),
+        Err(refusal) => return Ran::refused(refusal),
     };
     let end = run::run(&mut config, buf.len(), budget);
     store.copy_from_slice(&config.store);
@@ -155,7 +157,7 @@ fn configuration(buf: &[u8], used: usize, store: &[u32]) -> Result<Config, Refus
 pub fn run_reducer(buf: &mut [u8], used: usize, budget: u32) -> Ran {
     let mut record = match closed_term(buf, used) {
         Ok(record) => record,
-        Err(refusal) => return Ran::refused(refusal.number()),
+        Err(refusal) => return Ran::refused(refusal),
     };
     let end = run::run(&mut record, buf.len(), budget);
     ran(end, budget, put(buf, &record.encode()))
@@ -182,10 +184,10 @@ pub fn result(buf: &[u8], used: usize, store: &mut [u32]) -> u32 {
 fn numerals(buf: &[u8], used: usize, places: usize) -> Result<Vec<u32>, Refusal> {
     let record: TermRecord = check::lent(buf, used)?;
     if places != record.k as usize {
-        return Err(Refusal::Store);
+        return Err(Refusal::BadStore);
     }
     without_free_variable(&record.term)?;
-    finished_values(&record.term).ok_or(Refusal::NotFinished)
+    finished_values(&record.term).ok_or(Refusal::Unfinished)
 }
 
 // Row 6 alone.
@@ -194,7 +196,7 @@ fn numerals(buf: &[u8], used: usize, places: usize) -> Result<Vec<u32>, Refusal>
 /// (01, "Result and weighing").
 pub fn weigh(gross: u32, tare: u32, store: &mut [u32]) -> u32 {
     if !(1..=16).contains(&store.len()) {
-        return Refusal::Store.number();
+        return Refusal::BadStore.number();
     }
     store.fill(0);
     store[0] = gross.saturating_sub(tare) / 20;
@@ -205,7 +207,7 @@ pub fn weigh(gross: u32, tare: u32, store: &mut [u32]) -> u32 {
 
 fn values_for(k: u32, store: &[u32]) -> Result<(), Refusal> {
     if store.len() != k as usize {
-        return Err(Refusal::Store);
+        return Err(Refusal::BadStore);
     }
     Ok(())
 }
@@ -233,7 +235,7 @@ fn written(answer: Result<Vec<u8>, Refusal>, out: &mut [u8]) -> Written {
             number: 0,
             used: put(out, &record),
         },
-        Err(refusal) => Written::refused(refusal.number()),
+        Err(refusal) => Written::refused(refusal),
     }
 }
 

@@ -2,34 +2,40 @@
 
 use crate::codec::Record;
 
-/// Why a call is refused; the discriminant is 01's number.
+/// Why a call is refused, by the names of `include/vistrokk.h`; the discriminant is 01's number.
 #[derive(Clone, Copy, Debug, PartialEq, Eq)]
 pub enum Refusal {
     /// A buffer above 16,384 bytes, or a used length above its buffer.
-    Buffer = 1,
+    BadBuffer = 1,
     /// Under 8 bytes used, or the wrong kind, or a length that is not the used length.
-    Header = 2,
+    BadHeader = 2,
     /// k is not 1 to 16.
-    K = 3,
+    BadK = 3,
     /// Bytes outside the grammar, variable numbers disregarded.
-    Grammar = 4,
+    Malformed = 4,
     /// A variable number that is not 1 to k.
-    Variable = 5,
+    BadVariable = 5,
     /// A store of other than k values (weighing: of other than 1 to 16).
-    Store = 6,
+    BadStore = 6,
     /// A free variable.
     FreeVariable = 7,
     /// Not finished.
-    NotFinished = 8,
+    Unfinished = 8,
     /// No program translates to it.
     NoProgram = 9,
     /// The answer is longer than the output buffer.
-    Output = 10,
+    OutputTooShort = 10,
 }
 
 impl Refusal {
     pub fn number(self) -> u32 {
         self as u32
+    }
+}
+
+impl From<Refusal> for u32 {
+    fn from(refusal: Refusal) -> u32 {
+        refusal.number()
     }
 }
 
@@ -42,7 +48,7 @@ const HEADER: usize = 8;
 /// Row 1 for one lent buffer. A buffer that only takes output counts as used to 0 bytes.
 pub fn buffer(len: usize, used: usize) -> Result<(), Refusal> {
     if len > BUFFER_LIMIT || used > len {
-        return Err(Refusal::Buffer);
+        return Err(Refusal::BadBuffer);
     }
     Ok(())
 }
@@ -55,23 +61,23 @@ pub fn buffer(len: usize, used: usize) -> Result<(), Refusal> {
 pub fn record<R: Record>(used: &[u8]) -> Result<R, Refusal> {
     let k = header(used, R::KIND)?;
     if !(1..=16).contains(&k) {
-        return Err(Refusal::K);
+        return Err(Refusal::BadK);
     }
-    let tree = R::decode(used).ok_or(Refusal::Grammar)?;
+    let tree = R::decode(used).ok_or(Refusal::Malformed)?;
     let sound = |variable: &u32| (1..=k).contains(variable);
     if !tree.variables().iter().all(sound) {
-        return Err(Refusal::Variable);
+        return Err(Refusal::BadVariable);
     }
     Ok(tree)
 }
 
 /// Row 2; gives the header's k.
 fn header(used: &[u8], kind: u16) -> Result<u32, Refusal> {
-    let head: &[u8; HEADER] = used.first_chunk().ok_or(Refusal::Header)?;
+    let head: &[u8; HEADER] = used.first_chunk().ok_or(Refusal::BadHeader)?;
     let [l0, l1, k0, k1, word @ ..] = *head;
     let len = usize::from(u16::from_le_bytes([l0, l1]));
     if u16::from_le_bytes([k0, k1]) != kind || len != used.len() {
-        return Err(Refusal::Header);
+        return Err(Refusal::BadHeader);
     }
     Ok(u32::from_le_bytes(word))
 }

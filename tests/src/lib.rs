@@ -1,4 +1,4 @@
-//! The other program: document 01 (`01-scope.md`) implemented once more, on trees.
+//! The other program: document 01 implemented once more, on trees.
 //!
 //! It is written from 01 alone and takes the plainest road everywhere: bytes are decoded into a
 //! tree, the rule is applied to the tree, and the tree is encoded again. The proved library works
@@ -15,15 +15,12 @@ pub mod codec;
 pub mod examples;
 pub mod extremes;
 pub mod generate;
-#[cfg(library)]
 pub mod lent;
-#[cfg(library)]
 pub mod library;
 pub mod line;
 pub mod random;
 pub mod read_back;
 pub mod run;
-#[cfg(library)]
 pub mod stack;
 pub mod substitute;
 pub mod translate;

@@ -47,19 +47,19 @@ impl Lent {
 /// The record and the remainder. The order of the tests: fewer than 2 bytes, a first length above
 /// 16,384, and only then an input shorter than that length.
 fn split(input: &[u8]) -> Result<(&[u8], &[u8]), Refusal> {
-    let first: &[u8; 2] = input.first_chunk().ok_or(Refusal::Header)?;
+    let first: &[u8; 2] = input.first_chunk().ok_or(Refusal::BadHeader)?;
     let len = usize::from(u16::from_le_bytes(*first));
     if len > BUFFER_LIMIT {
-        return Err(Refusal::Buffer);
+        return Err(Refusal::BadBuffer);
     }
-    input.split_at_checked(len).ok_or(Refusal::Header)
+    input.split_at_checked(len).ok_or(Refusal::BadHeader)
 }
 
 /// The k values after the record, 4 bytes each; a remainder of other length is refusal 6.
 fn values(remainder: &[u8], k: u32) -> Result<Vec<u32>, Refusal> {
     let words = remainder.chunks_exact(4);
     if !words.remainder().is_empty() || words.len() != k as usize {
-        return Err(Refusal::Store);
+        return Err(Refusal::BadStore);
     }
     let word = |bytes: &[u8]| u32::from_le_bytes([bytes[0], bytes[1], bytes[2], bytes[3]]);
     Ok(words.map(word).collect())

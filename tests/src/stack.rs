@@ -7,14 +7,14 @@
 //! every frame of the library below them. A part of the deepest frame that is reserved and never
 //! written is not seen.
 
-mod landed;
+mod every_call;
 
 use std::arch::asm;
 
 use crate::extremes::Records;
 use crate::generate::lend;
 use crate::tree::with_big_stack;
-use landed::landed;
+use every_call::every_call;
 
 /// Enough for a plain recursion over the deepest records as well: it is to be told, not to crash.
 const SIZE: usize = 8 << 20;
@@ -75,7 +75,7 @@ impl Slices {
 /// A call of the library, and the same call of the other program; both give the number.
 pub struct Call {
     pub name: &'static str,
-    /// How many bytes it may take (DESIGN.md, section 5).
+    /// How many bytes it may take, as the header promises.
     pub limit: usize,
     pub records: fn() -> Records,
     pub library: fn(&mut Slices) -> u32,
@@ -90,9 +90,9 @@ pub struct Measured {
     pub bytes: usize,
 }
 
-/// Every call that has landed, on every extreme record of its sort.
+/// Every call, on every extreme record of its sort.
 pub fn measure() -> Vec<Measured> {
-    with_big_stack(|| landed().iter().flat_map(measure_call).collect())
+    with_big_stack(|| every_call().iter().flat_map(measure_call).collect())
 }
 
 fn measure_call(call: &Call) -> Vec<Measured> {

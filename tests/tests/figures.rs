@@ -1,7 +1,8 @@
 //! The figures that 01 states, each as it stands there or worked out by hand from its rules.
 
 use other::both::{run_reducer, run_stepper, translate};
-use other::calls::Ran;
+use other::calls::{Ran, Written};
+use other::check::Refusal;
 use other::codec::Record;
 use other::examples::{add, examples, nest_of_blocks, row_of_blocks, Example};
 use other::generate::lend;
@@ -173,7 +174,7 @@ fn the_stepper_needs_156_bytes() {
     assert_eq!(step(&p1, 156, 4).0, end(Outcome::Spent, 4, 4, 156));
 }
 
-/// OBLIGATIONS 19. At k = 16 a tuple is 4 + 8·16 = 132 bytes, so an empty block in a row becomes a
+/// At k = 16 a tuple is 4 + 8·16 = 132 bytes, so an empty block in a row becomes a
 /// let-all of 4 + 132 bytes before the rest, and the row ends with one tuple after the header of 8:
 /// 8 + 136·n + 132. For 481 that is 65,556, more than 16 bits hold; for 480 it is 65,420. A program
 /// of 16,384 bytes holds (16,384 − 12) / 4 = 4,093 empty blocks: 556,788.
@@ -190,7 +191,7 @@ fn lengths_do_not_wrap_at_16_bits() {
             assert_eq!(record.encoded_len(), program);
             assert_eq!(translation(&record).encoded_len(), term);
             let written = translate(&record.encode(), program, &mut out);
-            assert_eq!((written.number, written.used), (10, 0));
+            assert_eq!(written, Written::refused(Refusal::OutputTooShort));
         }
         assert_eq!(out, [0xA5; ROOM]);
     });

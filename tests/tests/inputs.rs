@@ -1,5 +1,5 @@
 //! The folder `inputs`: the program's inputs (`NAME.in`) with the lines expected of it (`NAME.out`),
-//! held against the other program and, once it has landed, the program itself.
+//! held against the other program; program.rs holds the program itself to them.
 
 use std::fs;
 use std::path::{Path, PathBuf};

@@ -3,6 +3,7 @@
 
 use other::both::{check_program, check_term};
 use other::calls::Checked;
+use other::check::Refusal;
 use other::codec::Record;
 use other::examples::{nest_of_blocks, row_of_blocks, sample_programs, sample_terms};
 use other::generate::damage::{break_one, name_a_wrong_variable};
@@ -158,12 +159,18 @@ fn a_break_and_a_wrong_variable() {
             return;
         }
         let wrong = raw.write();
-        assert_eq!(check(&wrong, wrong.len()), Checked::refused(5));
+        assert_eq!(
+            check(&wrong, wrong.len()),
+            Checked::refused(Refusal::BadVariable)
+        );
         break_one(random, &mut raw);
         let broken = raw.write();
         // A record of 16,384 bytes may have become longer than can be lent.
         if broken.len() <= 16_384 {
-            assert_eq!(check(&broken, broken.len()), Checked::refused(4));
+            assert_eq!(
+                check(&broken, broken.len()),
+                Checked::refused(Refusal::Malformed)
+            );
             both.one(0);
         }
     });
@@ -184,7 +191,10 @@ fn the_longest_records_with_a_byte_changed() {
         bytes[place] = *random.pick(&[0, 1, 2, 3, 4, 5, 16, 64, 255]);
         seen.one(check_program(&bytes, bytes.len()).number as usize);
         bytes.push(0);
-        assert_eq!(check_program(&bytes, 16_384), Checked::refused(1));
+        assert_eq!(
+            check_program(&bytes, 16_384),
+            Checked::refused(Refusal::BadBuffer)
+        );
     });
     seen.assert_at_least([100, 0, 0, 0, 500, 0]);
 }

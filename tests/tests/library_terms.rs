@@ -3,6 +3,7 @@
 
 use other::both::{read_back, result, substitute, translate};
 use other::calls::Written;
+use other::check::Refusal;
 use other::codec::Record;
 use other::examples::{row_of_blocks, sample_programs, sample_terms};
 use other::generate::lend;
@@ -156,7 +157,7 @@ fn terms_of_more_than_65535_bytes() {
                 let record = row_of_blocks(k as u32, blocks).encode();
                 let mut out = vec![0x5A; 16_384];
                 let written = translate(&record, record.len(), &mut out);
-                assert_eq!(written, Written::refused(10));
+                assert_eq!(written, Written::refused(Refusal::OutputTooShort));
                 would_fit.add(0, u32::from(len % 65_536 <= out.len()));
             }
         }

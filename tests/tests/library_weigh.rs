@@ -2,6 +2,7 @@
 //! compares; `runs.rs` states values of 01.
 
 use other::both::weigh;
+use other::check::Refusal;
 use other::random::{cases, Counts, Random};
 
 /// Weights at which something changes: 20 kg and its multiples, and the ends of the range.
@@ -31,7 +32,7 @@ fn every_pair_of_weights_in_every_store() {
             for len in 0..=40 {
                 let mut store: Vec<u32> = (1..=len).collect();
                 let number = weigh(gross, tare, &mut store);
-                seen.one(usize::from(number == 6));
+                seen.one(usize::from(number == Refusal::BadStore.number()));
             }
         }
     }

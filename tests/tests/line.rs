@@ -1,4 +1,4 @@
-//! The program's line on bad input, and its other outcomes (01, "Bench loads"; OBLIGATIONS 28).
+//! The program's line on bad input, and its other outcomes (01, "Bench loads").
 
 use other::codec::Record;
 use other::examples::{add, program, row_of_blocks};

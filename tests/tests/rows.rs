@@ -4,6 +4,7 @@ use other::both::{
     check_program, check_term, read_back, result, run_reducer, run_stepper, substitute, translate,
 };
 use other::calls::{Checked, Ran, Written};
+use other::check::Refusal;
 use other::codec::{hex, kind, Record};
 use other::examples::{add, nest_of_blocks, row_of_blocks, sample_programs, sample_terms};
 use other::generate::damage::{
@@ -45,7 +46,7 @@ fn every_break_at_every_level_is_4() {
                     let got = check(&broken, broken.len());
                     assert_eq!(
                         got,
-                        Checked::refused(4),
+                        Checked::refused(Refusal::Malformed),
                         "record {place}: {done:?}: {}",
                         hex(&broken)
                     );
@@ -67,7 +68,10 @@ fn the_deepest_and_the_last_record_are_looked_at() {
             for (place, byte) in [(16_382, 4), (16_380, 5)] {
                 let mut broken = bytes.clone();
                 broken[place] = byte;
-                assert_eq!(check_program(&broken, 16_384), Checked::refused(4));
+                assert_eq!(
+                    check_program(&broken, 16_384),
+                    Checked::refused(Refusal::Malformed)
+                );
             }
         }
     });
@@ -91,7 +95,7 @@ fn every_variable_at_every_level_is_looked_at() {
                 let wrong = raw.write();
                 assert_eq!(
                     check(&wrong, wrong.len()),
-                    Checked::refused(5),
+                    Checked::refused(Refusal::BadVariable),
                     "{}",
                     hex(&wrong)
                 );
@@ -110,15 +114,30 @@ fn a_wrong_variable_early_and_a_break_late_is_4() {
         Command::Assign(1, Expr::Variable(1)),
     ];
     let mut bytes = Program { k: 4, block }.encode();
-    assert_eq!(check_program(&bytes, bytes.len()), Checked::refused(5));
+    assert_eq!(
+        check_program(&bytes, bytes.len()),
+        Checked::refused(Refusal::BadVariable)
+    );
     let last_kind = bytes.len() - 6;
     bytes[last_kind] = 20;
-    assert_eq!(check_program(&bytes, bytes.len()), Checked::refused(4));
+    assert_eq!(
+        check_program(&bytes, bytes.len()),
+        Checked::refused(Refusal::Malformed)
+    );
     bytes[4] = 17;
-    assert_eq!(check_program(&bytes, bytes.len()), Checked::refused(3));
+    assert_eq!(
+        check_program(&bytes, bytes.len()),
+        Checked::refused(Refusal::BadK)
+    );
     bytes[2] = 8;
-    assert_eq!(check_program(&bytes, bytes.len()), Checked::refused(2));
-    assert_eq!(check_program(&bytes, bytes.len() + 1), Checked::refused(1));
+    assert_eq!(
+        check_program(&bytes, bytes.len()),
+        Checked::refused(Refusal::BadHeader)
+    );
+    assert_eq!(
+        check_program(&bytes, bytes.len() + 1),
+        Checked::refused(Refusal::BadBuffer)
+    );
 }
 
 /// Used lengths 0 to 12 of a buffer that holds the shortest program, and of one whose header says
@@ -130,21 +149,24 @@ fn used_lengths_around_the_header() {
         let expected = if used == 12 {
             Checked { number: 0, k: 1 }
         } else {
-            Checked::refused(2)
+            Checked::refused(Refusal::BadHeader)
         };
         assert_eq!(check_program(&sound, used), expected, "{used} bytes");
         let mut told = sound;
         told[0] = used as u8;
         let expected = match used {
-            0..8 => Checked::refused(2),
+            0..8 => Checked::refused(Refusal::BadHeader),
             12 => Checked { number: 0, k: 1 },
-            _ => Checked::refused(4),
+            _ => Checked::refused(Refusal::Malformed),
         };
         assert_eq!(check_program(&told, used), expected, "{used} bytes");
     }
-    assert_eq!(check_program(&sound, 14), Checked::refused(1));
-    assert_eq!(check_program(&[], 0), Checked::refused(2));
-    assert_eq!(check_program(&[], 1), Checked::refused(1));
+    assert_eq!(
+        check_program(&sound, 14),
+        Checked::refused(Refusal::BadBuffer)
+    );
+    assert_eq!(check_program(&[], 0), Checked::refused(Refusal::BadHeader));
+    assert_eq!(check_program(&[], 1), Checked::refused(Refusal::BadBuffer));
 }
 
 /// Row 1 at its two boundaries: 16,384 bytes are allowed, and so is a buffer used to its end.
@@ -154,14 +176,32 @@ fn buffers_of_16384_and_16385() {
     assert_eq!(check_program(&buffer, 64), Checked { number: 0, k: 4 });
     buffer.resize(16_384, 0xA5);
     assert_eq!(check_program(&buffer, 64), Checked { number: 0, k: 4 });
-    assert_eq!(check_program(&buffer, 16_385), Checked::refused(1));
-    assert_eq!(check_program(&buffer, usize::MAX), Checked::refused(1));
+    assert_eq!(
+        check_program(&buffer, 16_385),
+        Checked::refused(Refusal::BadBuffer)
+    );
+    assert_eq!(
+        check_program(&buffer, usize::MAX),
+        Checked::refused(Refusal::BadBuffer)
+    );
     // 64 once more if only 16 or 32 bits of the used length were looked at.
-    assert_eq!(check_program(&buffer, 65_536 + 64), Checked::refused(1));
-    assert_eq!(check_program(&buffer, (1 << 32) + 64), Checked::refused(1));
+    assert_eq!(
+        check_program(&buffer, 65_536 + 64),
+        Checked::refused(Refusal::BadBuffer)
+    );
+    assert_eq!(
+        check_program(&buffer, (1 << 32) + 64),
+        Checked::refused(Refusal::BadBuffer)
+    );
     buffer.push(0);
-    assert_eq!(check_program(&buffer, 64), Checked::refused(1));
-    assert_eq!(check_program(&buffer, 0), Checked::refused(1));
+    assert_eq!(
+        check_program(&buffer, 64),
+        Checked::refused(Refusal::BadBuffer)
+    );
+    assert_eq!(
+        check_program(&buffer, 0),
+        Checked::refused(Refusal::BadBuffer)
+    );
 }
 
 #[test]
@@ -175,7 +215,11 @@ fn k_from_1_to_16_and_no_other() {
         for k in WRONG_K {
             let mut wrong = bytes.clone();
             wrong[4..8].copy_from_slice(&k.to_le_bytes());
-            assert_eq!(check(&wrong, wrong.len()), Checked::refused(3), "k = {k}");
+            assert_eq!(
+                check(&wrong, wrong.len()),
+                Checked::refused(Refusal::BadK),
+                "k = {k}"
+            );
         }
     }
 }
@@ -188,9 +232,12 @@ fn another_k_that_is_allowed() {
     for k in (1..=16).filter(|k| *k != 4) {
         term[4] = k as u8;
         program[4] = k as u8;
-        assert_eq!(check_term(&term, term.len()), Checked::refused(4));
+        assert_eq!(
+            check_term(&term, term.len()),
+            Checked::refused(Refusal::Malformed)
+        );
         let expected = if k < 4 {
-            Checked::refused(5)
+            Checked::refused(Refusal::BadVariable)
         } else {
             Checked { number: 0, k }
         };
@@ -202,10 +249,16 @@ fn another_k_that_is_allowed() {
 #[test]
 fn the_other_kind_of_record_is_2() {
     for bytes in sample_programs() {
-        assert_eq!(check_term(&bytes, bytes.len()), Checked::refused(2));
+        assert_eq!(
+            check_term(&bytes, bytes.len()),
+            Checked::refused(Refusal::BadHeader)
+        );
     }
     for bytes in sample_terms() {
-        assert_eq!(check_program(&bytes, bytes.len()), Checked::refused(2));
+        assert_eq!(
+            check_program(&bytes, bytes.len()),
+            Checked::refused(Refusal::BadHeader)
+        );
     }
 }
 

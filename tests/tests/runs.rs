@@ -2,6 +2,7 @@
 
 use other::both::{result, run_reducer, run_stepper, substitute, weigh};
 use other::calls::Ran;
+use other::check::Refusal;
 use other::codec::{hex, Record};
 use other::examples::{add, examples};
 use other::generate::lend;
@@ -203,10 +204,10 @@ fn the_stepper_wants_k_values() {
         let mut values = wrong_store(random, program.k);
         let (before, mut buffer) = (values.clone(), lend(&record, 210));
         let ran = run_stepper(&mut buffer, record.len(), &mut values, 9);
-        assert_eq!(ran, Ran::refused(6));
+        assert_eq!(ran, Ran::refused(Refusal::BadStore));
         assert_eq!((&buffer, &values), (&lend(&record, 210), &before));
         let ran = run_stepper(&mut buffer, record.len() - 1, &mut values, 9);
-        assert_eq!(ran, Ran::refused(2));
+        assert_eq!(ran, Ran::refused(Refusal::BadHeader));
     });
 }
 
@@ -224,7 +225,7 @@ fn the_reducer_wants_a_closed_term() {
         let bytes = record.encode();
         let mut buffer = lend(&bytes, 400);
         let ran = run_reducer(&mut buffer, bytes.len(), 9);
-        assert_eq!(ran, Ran::refused(7));
+        assert_eq!(ran, Ran::refused(Refusal::FreeVariable));
         assert_eq!(buffer, lend(&bytes, 400));
     }
     cases(2_000, |random| {
@@ -232,7 +233,8 @@ fn the_reducer_wants_a_closed_term() {
         let bytes = record.encode();
         let mut buffer = bytes.clone();
         let number = run_reducer(&mut buffer, bytes.len(), 0).number;
-        assert_eq!(number, if closed(&record.term) { 0 } else { 7 });
+        let open = Refusal::FreeVariable.number();
+        assert_eq!(number, if closed(&record.term) { 0 } else { open });
         let values = store(random, record.k);
         substitute(&mut buffer, bytes.len(), &values);
         assert_eq!(run_reducer(&mut buffer, bytes.len(), 5).number, 0);
@@ -289,7 +291,13 @@ fn result_and_its_rows() {
     let let_one = |simple, last: &Term| Term::LetOne(1, simple, Box::new(last.clone()));
     let unfinished = let_one(Simple::Atom(Atom::Numeral(1)), &done);
     let open_too = let_one(Simple::Succ(Atom::Variable(2)), &done);
-    for (term, number) in [(&done, 0), (&open, 7), (&unfinished, 8), (&open_too, 7)] {
+    let terms = [
+        (&done, 0),
+        (&open, Refusal::FreeVariable.number()),
+        (&unfinished, Refusal::Unfinished.number()),
+        (&open_too, Refusal::FreeVariable.number()),
+    ];
+    for (term, number) in terms {
         let term = term.clone();
         let record = TermRecord { k: 2, term }.encode();
         let mut store = [5, 6];
@@ -298,9 +306,11 @@ fn result_and_its_rows() {
         assert_eq!(store, wanted);
         for len in [0, 1, 3, 16, 17] {
             let mut store = vec![5; len];
-            assert_eq!(result(&record, record.len(), &mut store), 6);
+            let refused = result(&record, record.len(), &mut store);
+            assert_eq!(refused, Refusal::BadStore.number());
             assert!(store.iter().all(|value| *value == 5));
-            assert_eq!(result(&record, record.len() - 1, &mut store), 2);
+            let refused = result(&record, record.len() - 1, &mut store);
+            assert_eq!(refused, Refusal::BadHeader.number());
         }
     }
 }
@@ -332,7 +342,8 @@ fn weighing() {
         }
         for len in [0, 17, 18, 300] {
             let mut store = vec![77; len];
-            assert_eq!(weigh(gross, tare, &mut store), 6);
+            let refused = weigh(gross, tare, &mut store);
+            assert_eq!(refused, Refusal::BadStore.number());
             assert!(store.iter().all(|value| *value == 77));
         }
     }

@@ -1,11 +1,9 @@
 //! The stack that each call of the library takes: no more than 2 KB, the translator 3 KB, however
-//! long, deep or branching the record is (DESIGN.md, section 5).
+//! long, deep or branching the record is, as `include/vistrokk.h` says.
 //!
 //! What is measured, and how, stands at `other::stack`: the deepest byte written below the start of
 //! a painted stack, the frames of the Rust wrapper included. `cargo test --test stack --
 //! --nocapture` prints every number; `./bench` prints the worst of each call.
-
-#![cfg(library)]
 
 use other::stack::{measure, used_by};
 

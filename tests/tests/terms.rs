@@ -2,6 +2,7 @@
 
 use other::both::{read_back, substitute, translate};
 use other::calls::Written;
+use other::check::Refusal;
 use other::codec::{hex, Record};
 use other::examples::{add, row_of_blocks};
 use other::generate::lend;
@@ -80,7 +81,7 @@ fn translate_and_read_back_over_bytes() {
 fn fits_exactly(random: &mut Random, wanted: &[u8], call: impl Fn(&mut [u8]) -> Written) {
     let used = wanted.len() as u32;
     let mut short = vec![0xA5; wanted.len() - 1];
-    assert_eq!(call(&mut short), Written::refused(10));
+    assert_eq!(call(&mut short), Written::refused(Refusal::OutputTooShort));
     assert!(short.iter().all(|byte| *byte == 0xA5));
     let mut out = vec![0xA5; wanted.len() + random.below(30)];
     assert_eq!(call(&mut out), Written { number: 0, used });
@@ -88,7 +89,7 @@ fn fits_exactly(random: &mut Random, wanted: &[u8], call: impl Fn(&mut [u8]) -> 
     assert!(out[wanted.len()..].iter().all(|byte| *byte == 0));
 }
 
-/// Each shape of OBLIGATIONS 23, at k = 2.
+/// One term of each shape that the rules of translation never give, at k = 2.
 #[test]
 fn terms_that_no_program_translates_to() {
     let all = || tuple(&[Variable(1), Variable(2)]);
@@ -113,13 +114,21 @@ fn terms_that_no_program_translates_to() {
         let record = TermRecord { k: 2, term }.encode();
         let mut out = [0xA5; 100];
         let written = read_back(&record, record.len(), &mut out);
-        assert_eq!(written, Written::refused(9), "{}", hex(&record));
+        assert_eq!(
+            written,
+            Written::refused(Refusal::NoProgram),
+            "{}",
+            hex(&record)
+        );
         assert_eq!(out, [0xA5; 100]);
         // 9 comes before 10, and after 1.
-        assert_eq!(read_back(&record, record.len(), &mut []).number, 9);
+        assert_eq!(
+            read_back(&record, record.len(), &mut []).number,
+            Refusal::NoProgram.number()
+        );
         assert_eq!(
             read_back(&record, record.len(), &mut vec![0; 16_385]).number,
-            1
+            Refusal::BadBuffer.number()
         );
     }
     let read = let_all(rec(all()), all());
@@ -132,7 +141,12 @@ fn generated_terms_that_no_program_translates_to() {
         let record = no_translation(random).encode();
         let mut out = vec![0xA5; random.below(200)];
         let written = read_back(&record, record.len(), &mut out);
-        assert_eq!(written, Written::refused(9), "{}", hex(&record));
+        assert_eq!(
+            written,
+            Written::refused(Refusal::NoProgram),
+            "{}",
+            hex(&record)
+        );
         assert!(out.iter().all(|byte| *byte == 0xA5));
     });
 }
@@ -156,13 +170,31 @@ fn what_reads_back_is_a_translation() {
 fn the_output_buffer_is_looked_at_first() {
     let source = add().encode();
     let mut out = vec![0xA5; 16_385];
-    assert_eq!(translate(&source, 64, &mut out).number, 1);
-    assert_eq!(translate(&source, 63, &mut out).number, 1);
-    assert_eq!(read_back(&source, 64, &mut out).number, 1);
-    assert_eq!(translate(&source, 63, &mut out[..16_384]).number, 2);
+    assert_eq!(
+        translate(&source, 64, &mut out).number,
+        Refusal::BadBuffer.number()
+    );
+    assert_eq!(
+        translate(&source, 63, &mut out).number,
+        Refusal::BadBuffer.number()
+    );
+    assert_eq!(
+        read_back(&source, 64, &mut out).number,
+        Refusal::BadBuffer.number()
+    );
+    assert_eq!(
+        translate(&source, 63, &mut out[..16_384]).number,
+        Refusal::BadHeader.number()
+    );
     assert!(out.iter().all(|byte| *byte == 0xA5));
-    assert_eq!(translate(&source, 64, &mut out[..171]).number, 10);
-    assert_eq!(translate(&source, 64, &mut []).number, 10);
+    assert_eq!(
+        translate(&source, 64, &mut out[..171]).number,
+        Refusal::OutputTooShort.number()
+    );
+    assert_eq!(
+        translate(&source, 64, &mut []).number,
+        Refusal::OutputTooShort.number()
+    );
     let written = translate(&source, 64, &mut out[..16_384]);
     assert_eq!(
         written,
@@ -189,7 +221,10 @@ fn the_longest_answer_is_16384_bytes() {
         }
     );
     let source = row_of_blocks(16, 120).encode();
-    assert_eq!(translate(&source, source.len(), &mut out).number, 10);
+    assert_eq!(
+        translate(&source, source.len(), &mut out).number,
+        Refusal::OutputTooShort.number()
+    );
 }
 
 /// Every place of 01's "Filling", at k = 2 with x1 = 5 and x2 = 6: let-one's own part is open and
@@ -277,12 +312,15 @@ fn substitution_wants_k_values() {
     for len in (0..=17).filter(|len| *len != 4) {
         let mut buffer = lend(&record, 200);
         let written = substitute(&mut buffer, 172, &vec![1; len]);
-        assert_eq!(written, Written::refused(6));
+        assert_eq!(written, Written::refused(Refusal::BadStore));
         assert_eq!(buffer, lend(&record, 200));
     }
     let mut buffer = record.clone();
     buffer[12] = 5; // let-one of x5
-    assert_eq!(substitute(&mut buffer, 172, &[]).number, 5);
+    assert_eq!(
+        substitute(&mut buffer, 172, &[]).number,
+        Refusal::BadVariable.number()
+    );
 }
 
 /// A let-one binds in its last term only; a let-all and a rec bind everything.

@@ -17,7 +17,7 @@ use Rattle.stepper.proofs.RunStepperLaws.{stepper-number, stepper-refused}
 use Rattle.term.proofs.CallLaws.{readBack-number, readBack-refused, result-number, result-refused, substitute-number, substitute-refused, translate-number, translate-refused}
 use Rattle.weighing.proofs.WeighLaws.{weigh-number, weigh-refused}
 use Rattle.agreement.specs.Demand1.{Demand1, Numbers}
-use Rattle.agreement.specs.Loads.{budget}
+use Rattle.agreement.specs.Examples.{budget}
 
 -- a call's number is the first row's
 numbers : (rs : List Row) (n : ℕ) → numbered rs ≡ true → n ≡ firstRow rs → Numbers rs n

@@ -19,7 +19,7 @@ use Rattle.stepper.proofs.RunStepperLaws.{stepper-ran}
 use Rattle.term.proofs.CallMeaningLaws.{calls-mean}
 use Rattle.weighing.proofs.WeighLaws.{weigh-means}
 use Rattle.agreement.specs.Demand2.{Demand2}
-use Rattle.agreement.specs.Loads.{budget}
+use Rattle.agreement.specs.Examples.{budget}
 
 -- a value that does not pass is above the largest that does
 over-largest : (h : Header) {P : ℕ → Type 0} → ((n : ℕ) × P n × (okOf h n ≡ false)) ↔ ((n : ℕ) × P n × (largestOf h < n))

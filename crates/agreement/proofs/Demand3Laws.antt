@@ -34,7 +34,7 @@ use Rattle.rules.proofs.SubstitutionLaws.{substitute-all}
 use Rattle.stepper.proofs.RunStepperLaws.{stepper-number, stepper-passes, stepper-takes}
 use Rattle.term.proofs.CallLaws.{stored-size, substitute-gives, substitute-size, translate-holds, translate-length, translate-out, translate-writes}
 use Rattle.agreement.specs.Demand3.{Agree, Demand3, Demand3Calls, Demand3Refusals, Refuses, Start, startWorld}
-use Rattle.agreement.specs.Loads.{budget}
+use Rattle.agreement.specs.Examples.{budget}
 use Rattle.agreement.specs.Orders.{AllAllowed, World, play}
 use Rattle.agreement.proofs.Play.{ReducerStands, StepperStands, reducer-stands, stepper-stands}
 
@@ -47,7 +47,7 @@ finished-block k (assign x a r) s l e = cc
 finished-block k (loop x b p r) s l e = cc
 finished-block k (nest b r) s l e = cc
 
-finished-state : (k : ℕ) (s : List ℕ) → length s ≡ k → stateOf k (record { block = empty; store = s }) ≡ tuple (map num s)
+pub finished-state : (k : ℕ) (s : List ℕ) → length s ≡ k → stateOf k (record { block = empty; store = s }) ≡ tuple (map num s)
 unfolding stateOf translate substitute
 finished-state k s e = ap tuple (subst (λ n. map (substituteAtom (fromStore s)) (all n) ≡ map num s) e (substitute-all s))
 
@@ -129,8 +129,8 @@ module _ (hd : Header) (P : Block) (μ : List ℕ) (s : Start hd P μ) where
 
   first : SoundConfig (okOf hd) (hd .k) (record { block = P; store = μ })
   first = record {
-    variables = record { block = accepted-program .variables; size = accepted-store };
-    literals = accepted-program .literals;
+    variables = record { block = accepted-program .isProgram .variables; size = accepted-store };
+    literals = accepted-program .isProgram .literals;
     values = s .storeValues;
   }
 
@@ -144,8 +144,7 @@ module _ (hd : Header) (P : Block) (μ : List ℕ) (s : Start hd P μ) where
         within = take-fits (s .checkUsed) (s .stepperBuf) (ap length (s .stepperBegins) ∙ sym (program-size accepted-program));
         header = accepted-header;
         bytes = s .stepperBegins;
-        variables = accepted-program .variables;
-        literals = accepted-program .literals;
+        isProgram = accepted-program .isProgram;
       };
       store = refl;
       sound = first;

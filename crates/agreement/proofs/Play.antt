@@ -22,7 +22,7 @@ use Rattle.stepper.specs.RunStepper.{runStepper, stepperRows}
 use Rattle.reducer.proofs.RunReducerLaws.{reducer-ran, reducer-refused, reducer-takes}
 use Rattle.rules.proofs.PlayLaws.{stands-plays}
 use Rattle.stepper.proofs.RunStepperLaws.{stepper-ran, stepper-refused, stepper-takes}
-use Rattle.agreement.specs.Loads.{budget}
+use Rattle.agreement.specs.Examples.{budget}
 use Rattle.agreement.specs.Orders.{AllAllowed, Allowed, Lent, Order, World, afterReducer, afterStepper, lentStore, order, other, own, play, storeAfter, toReducer, toStepper, usedAfter}
 
 -- WHAT THE WORLD HOLDS: a sound configuration in the stepper's buffer and the store, a sound closed term in the reducer's buffer

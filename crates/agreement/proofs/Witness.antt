@@ -1,4 +1,5 @@
--- Demand 3's hypotheses can be met: a start, and a list with refused orders in it after which the two totals are equal.
+-- WITNESSES, by computing. Demand 3's hypotheses can be met: a start, and a list with refused orders in it after which the two totals
+-- are equal. And the two engines' room may give out at different totals.
 use Prim.Native.Nat.{ℕ}
 use mathlib.Core.Path.{refl, sym, _∙_, _≡_}
 use mathlib.Core.List.{_++_, List, [], _∷_}
@@ -29,13 +30,14 @@ use Rattle.run.specs.RunAnswer.{outcomeNumber, roomFor}
 use Rattle.stepper.specs.RunStepper.{runStepper, steppedTo, stepperBy}
 use Rattle.term.specs.Calls.{noSource, numerals, readBackCall, resultCall, substituteCall, substituted, tooShort, translateCall}
 use Rattle.agreement.specs.Demand3.{Agree, Demand3, Start, startWorld}
-use Rattle.agreement.specs.Loads.{acceptedValues, add, budget, configOfLoad, endingOfReducer, endingOfStepper, expected, loads, ofVariables, programBytesOf, reducerEnding, reducerExpected, shown, shownBy, shownFrom, stepperEnding, substitutedOf, translatedOf}
+use Rattle.agreement.specs.Examples.{acceptedValues, add, budget, configOf, endingOfReducer, endingOfStepper, expected, examples, ofVariables, programBytesOf, reducerEnding, reducerExpected, shown, shownBy, shownFrom, stepperEnding, substitutedOf, translatedOf}
 use Rattle.agreement.specs.Orders.{Order, afterReducer, afterStepper, lentStore, order, other, own, play, storeAfter, toReducer, toStepper, usedAfter}
+use Rattle.agreement.specs.RoomsDiffer.{RoomsDiffer}
 use Rattle.agreement.proofs.Demand3Laws.{demand3}
 
 -- P1, in a stepper's buffer of 160 bytes and a reducer's of 400, with nines behind the records
 pub witness : Start (ofVariables 4) add (7 ∷ 3 ∷ 0 ∷ 0 ∷ [])
-unfolding adding closedAtom closedAtoms closedSimple closedIn closed plays sameAtom sameAtoms exprOf boundOf sourceLetOne sourceLetAll sourceRec source blockOfSource readBack valueOf unrollRec reduceInside reduceLetOne reduce onNext orStop iterate outcomeOf stop oneMore goOn runOn run inRange exprInRange boundInRange blockInRange atomInRange atomsInRange simpleInRange termInRange boundValue unrollLoop stepInside stepAssign stepBlock step upTo minusOne lookup update fromStore only except orRef substituteAtom substituteSimple substitute stateOf refs simpleOf atomOf translate le val padded checkedBy checkProgram checkTerm wroteBy storedBy fuelled fixed lengthField kindField kField kindOf largestOf fieldsOf contentsAt contents headed blockBytes encodeTermRecord blockIn termIn encodeProgram encodeTerm exprKind exprNumber boundKind boundNumber exprFrom boundFrom encodeBlock blockSize commandKind decodeCommand decodeBlockPart decodeBlockStep decodeBlock then bind atEnd fromSome pick word ofKind subOf sub encodeLeaf leafOf leaf anyRecordOf anyRecord encodeRecord cut split pickRow firstRow isNone holds orElse tooLong badBuffer badHeader badK badBlock badTerm blockOutside termOutside badStore openTerm finishedTerm unfinished atomKind atomNumber atomFrom encodeAtoms decodeAtoms simpleKindIf encodeSimple simpleSize onlyAtom plainOf simpleBy simpleFrom readSimple kindOfTerm termContents termSize termKindIf termKind lastTerm decodeTermKind decodeTermStep measureTerm decodeTerm outcomeNumber roomFor tooShort translateCall noSource readBackCall substituteCall numerals resultCall steppedTo stepperBy runStepper reducedTo reducerBy runReducer shownBy budget stepperEnding reducerEnding configOfLoad programBytesOf translatedOf substitutedOf endingOfStepper acceptedValues endingOfReducer shownFrom shown reducerExpected expected loads lentStore storeAfter usedAfter afterStepper afterReducer order
+unfolding adding closedAtom closedAtoms closedSimple closedIn closed plays sameAtom sameAtoms exprOf boundOf sourceLetOne sourceLetAll sourceRec source blockOfSource readBack valueOf unrollRec reduceInside reduceLetOne reduce onNext orStop iterate outcomeOf stop oneMore goOn runOn run inRange exprInRange boundInRange blockInRange atomInRange atomsInRange simpleInRange termInRange boundValue unrollLoop stepInside stepAssign stepBlock step upTo minusOne lookup update fromStore only except orRef substituteAtom substituteSimple substitute stateOf refs simpleOf atomOf translate le val padded checkedBy checkProgram checkTerm wroteBy storedBy fuelled fixed lengthField kindField kField kindOf largestOf fieldsOf contentsAt contents headed blockBytes encodeTermRecord blockIn termIn encodeProgram encodeTerm exprKind exprNumber boundKind boundNumber exprFrom boundFrom encodeBlock blockSize commandKind decodeCommand decodeBlockPart decodeBlockStep decodeBlock then bind atEnd fromSome pick word ofKind subOf sub encodeLeaf leafOf leaf anyRecordOf anyRecord encodeRecord cut split pickRow firstRow isNone holds orElse tooLong badBuffer badHeader badK badBlock badTerm blockOutside termOutside badStore openTerm finishedTerm unfinished atomKind atomNumber atomFrom encodeAtoms decodeAtoms simpleKindIf encodeSimple simpleSize onlyAtom plainOf simpleBy simpleFrom readSimple kindOfTerm termContents termSize termKindIf termKind lastTerm decodeTermKind decodeTermStep measureTerm decodeTerm outcomeNumber roomFor tooShort translateCall noSource readBackCall substituteCall numerals resultCall steppedTo stepperBy runStepper reducedTo reducerBy runReducer shownBy budget stepperEnding reducerEnding configOf programBytesOf translatedOf substitutedOf endingOfStepper acceptedValues endingOfReducer shownFrom shown reducerExpected expected examples lentStore storeAfter usedAfter afterStepper afterReducer order
 witness = record {
   checkBuf = encodeProgram (ofVariables 4) add;
   checkUsed = 64;
@@ -73,7 +75,7 @@ pub record Totals : Type 0 where
   pub reducer : (play (startWorld (ofVariables 4) add (7 ∷ 3 ∷ 0 ∷ 0 ∷ []) witness) orders) .reducerTotal ≡ 7
 
 pub totals : Totals
-unfolding witness adding closedAtom closedAtoms closedSimple closedIn closed plays sameAtom sameAtoms exprOf boundOf sourceLetOne sourceLetAll sourceRec source blockOfSource readBack valueOf unrollRec reduceInside reduceLetOne reduce onNext orStop iterate outcomeOf stop oneMore goOn runOn run inRange exprInRange boundInRange blockInRange atomInRange atomsInRange simpleInRange termInRange boundValue unrollLoop stepInside stepAssign stepBlock step upTo minusOne lookup update fromStore only except orRef substituteAtom substituteSimple substitute stateOf refs simpleOf atomOf translate le val padded checkedBy checkProgram checkTerm wroteBy storedBy fuelled fixed lengthField kindField kField kindOf largestOf fieldsOf contentsAt contents headed blockBytes encodeTermRecord blockIn termIn encodeProgram encodeTerm exprKind exprNumber boundKind boundNumber exprFrom boundFrom encodeBlock blockSize commandKind decodeCommand decodeBlockPart decodeBlockStep decodeBlock then bind atEnd fromSome pick word ofKind subOf sub encodeLeaf leafOf leaf anyRecordOf anyRecord encodeRecord cut split pickRow firstRow isNone holds orElse tooLong badBuffer badHeader badK badBlock badTerm blockOutside termOutside badStore openTerm finishedTerm unfinished atomKind atomNumber atomFrom encodeAtoms decodeAtoms simpleKindIf encodeSimple simpleSize onlyAtom plainOf simpleBy simpleFrom readSimple kindOfTerm termContents termSize termKindIf termKind lastTerm decodeTermKind decodeTermStep measureTerm decodeTerm outcomeNumber roomFor tooShort translateCall noSource readBackCall substituteCall numerals resultCall steppedTo stepperBy runStepper reducedTo reducerBy runReducer shownBy budget stepperEnding reducerEnding configOfLoad programBytesOf translatedOf substitutedOf endingOfStepper acceptedValues endingOfReducer shownFrom shown reducerExpected expected loads lentStore storeAfter usedAfter afterStepper afterReducer order
+unfolding witness adding closedAtom closedAtoms closedSimple closedIn closed plays sameAtom sameAtoms exprOf boundOf sourceLetOne sourceLetAll sourceRec source blockOfSource readBack valueOf unrollRec reduceInside reduceLetOne reduce onNext orStop iterate outcomeOf stop oneMore goOn runOn run inRange exprInRange boundInRange blockInRange atomInRange atomsInRange simpleInRange termInRange boundValue unrollLoop stepInside stepAssign stepBlock step upTo minusOne lookup update fromStore only except orRef substituteAtom substituteSimple substitute stateOf refs simpleOf atomOf translate le val padded checkedBy checkProgram checkTerm wroteBy storedBy fuelled fixed lengthField kindField kField kindOf largestOf fieldsOf contentsAt contents headed blockBytes encodeTermRecord blockIn termIn encodeProgram encodeTerm exprKind exprNumber boundKind boundNumber exprFrom boundFrom encodeBlock blockSize commandKind decodeCommand decodeBlockPart decodeBlockStep decodeBlock then bind atEnd fromSome pick word ofKind subOf sub encodeLeaf leafOf leaf anyRecordOf anyRecord encodeRecord cut split pickRow firstRow isNone holds orElse tooLong badBuffer badHeader badK badBlock badTerm blockOutside termOutside badStore openTerm finishedTerm unfinished atomKind atomNumber atomFrom encodeAtoms decodeAtoms simpleKindIf encodeSimple simpleSize onlyAtom plainOf simpleBy simpleFrom readSimple kindOfTerm termContents termSize termKindIf termKind lastTerm decodeTermKind decodeTermStep measureTerm decodeTerm outcomeNumber roomFor tooShort translateCall noSource readBackCall substituteCall numerals resultCall steppedTo stepperBy runStepper reducedTo reducerBy runReducer shownBy budget stepperEnding reducerEnding configOf programBytesOf translatedOf substitutedOf endingOfStepper acceptedValues endingOfReducer shownFrom shown reducerExpected expected examples lentStore storeAfter usedAfter afterStepper afterReducer order
 totals = record { stepper = refl; reducer = refl }
 
 -- so the engines agree after that list
@@ -82,3 +84,38 @@ unfolding Demand3
 agreed =
     demand3 (ofVariables 4) add (7 ∷ 3 ∷ 0 ∷ 0 ∷ []) witness orders (tt, (tt, (tt, ((λ e. let z : 0 ≡ 4 = e in omega arith), (tt, (tt, tt))))))
     (totals .stepper ∙ sym (totals .reducer))
+
+-- ROOMS: ADD on 7, 4, 0, 0, both buffers of 172 bytes, as many as the term's record has
+
+-- after 4 steps the loop is unrolled three times, and a fourth asks for 192 bytes; after one reduction the first asks for 232
+pub rooms-differ : RoomsDiffer
+unfolding witness adding closedAtom closedAtoms closedSimple closedIn closed valueOf unrollRec reduceInside reduceLetOne reduce outcomeOf stop oneMore goOn runOn run inRange exprInRange boundInRange blockInRange atomInRange atomsInRange simpleInRange termInRange boundValue unrollLoop stepInside stepAssign stepBlock step upTo lookup update fromStore only except orRef substituteAtom substituteSimple substitute refs simpleOf atomOf translate le val padded checkedBy checkProgram wroteBy fuelled fixed lengthField kindField kField kindOf largestOf fieldsOf contentsAt contents headed blockBytes encodeTermRecord blockIn termIn encodeProgram encodeTerm exprKind exprNumber boundKind boundNumber exprFrom boundFrom encodeBlock commandKind decodeCommand decodeBlockPart decodeBlockStep decodeBlock then bind atEnd fromSome pick word ofKind subOf sub encodeLeaf leafOf leaf anyRecordOf anyRecord encodeRecord cut split pickRow firstRow isNone holds orElse tooLong badBuffer badHeader badK badBlock badTerm blockOutside termOutside badStore openTerm atomKind atomNumber atomFrom encodeAtoms decodeAtoms simpleKindIf encodeSimple onlyAtom plainOf simpleBy simpleFrom readSimple kindOfTerm termContents termKindIf termKind lastTerm decodeTermKind decodeTermStep measureTerm decodeTerm roomFor substituteCall steppedTo stepperBy runStepper reducedTo reducerBy runReducer budget
+rooms-differ = record {
+  header = ofVariables 4;
+  program = add;
+  store = 7 ∷ 4 ∷ 0 ∷ 0 ∷ [];
+  start = record {
+    checkBuf = witness .checkBuf;
+    checkUsed = witness .checkUsed;
+    checked = witness .checked;
+    program = witness .program;
+    programWords = witness .programWords;
+    termBuf = witness .termBuf;
+    termUsed = witness .termUsed;
+    term = witness .term;
+    substituted = refl;
+    storeValues = (refl, (refl, (refl, (refl, tt))));
+    stepperBuf = padded 172 (encodeProgram (ofVariables 4) add);
+    stepperBegins = refl;
+    reducerBuf = encodeTerm (ofVariables 4) (substitute (fromStore (7 ∷ 4 ∷ 0 ∷ 0 ∷ [])) (translate 4 add));
+    reducerUsed = 172;
+    reducerFits = lit≤ tt;
+    reducerBegins = refl;
+  };
+  sameLength = refl;
+  stepperTotal = 4;
+  reducerTotal = 1;
+  stepperStops = record { outcome = refl; steps = refl };
+  reducerStops = record { outcome = refl; steps = refl };
+  differ = λ e. omega arith;
+}

@@ -100,7 +100,7 @@ part-put-after : (l vs : List ℕ) (at from n : ℕ) → at + length vs ≤ from
 unfolding part
 part-put-after l vs at from n h b = ap (take n) (drop-put l vs at from h b)
 
-part-put-before : (l vs : List ℕ) (at from n : ℕ) → from + n ≤ at → at ≤ length l → part (put l at vs) from n ≡ part l from n
+pub part-put-before : (l vs : List ℕ) (at from n : ℕ) → from + n ≤ at → at ≤ length l → part (put l at vs) from n ≡ part l from n
 unfolding put part
 part-put-before l vs at from n h b =
     let r : ℕ = at - (from + n) in

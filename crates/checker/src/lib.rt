@@ -2,6 +2,8 @@
 // record's contents (rows 4 and 5), and the answer.
 use reader::Head;
 use record::Sort;
+use record::limit;
+use record::refusal;
 ghost use mathlib.Core.Path.{_≡_};
 ghost use mathlib.Core.Bool.{false};
 ghost use lib.Dec.{ltb};
@@ -46,8 +48,8 @@ pub fn number_of(v: Verdict) -> u32
 {
     match v {
         Verdict::Good => 0,
-        Verdict::Outside => 5,
-        Verdict::Malformed => 4,
+        Verdict::Outside => refusal::BAD_VARIABLE,
+        Verdict::Malformed => refusal::MALFORMED,
     }
 }
 
@@ -81,7 +83,7 @@ pub fn answer(number: u32, k: u32) -> Checked
 pub fn too_long(length: usize) -> bool
     ensures { λ r. ⌜ r ≡ ltb 16384 length ⌝ }
 {
-    16384 < length
+    limit::BUFFER < length
 }
 
 // Row 1 of a buffer that is lent with a used length.
@@ -100,27 +102,27 @@ pub fn check_header(buf: &[u8], used: usize, sort: Sort) -> u32
     requires { ⌜ badBuffer (now buf) used ≡ false ⌝ }
     ensures { λ r. ⌜ r ≡ headerRow sort (now (buf .entry)) used ⌝ }
 {
-    match reader::head_of(buf) {
+    match reader::head_at(buf, 0) {
         Head::Record(length, found) => {
             if used < record::start_of(buf) {
-                return 2;
+                return refusal::BAD_HEADER;
             }
             let h = record::read_header(buf);
             if found != h.kind_of(sort) {
-                return 2;
+                return refusal::BAD_HEADER;
             }
             if length != used {
-                return 2;
+                return refusal::BAD_HEADER;
             }
             if h.k < 1 {
-                return 3;
+                return refusal::BAD_K;
             }
-            if 16 < h.k {
-                return 3;
+            if limit::VARIABLES < h.k {
+                return refusal::BAD_K;
             }
             0
         }
-        Head::End => 2,
-        Head::Short => 2,
+        Head::End => refusal::BAD_HEADER,
+        Head::Short => refusal::BAD_HEADER,
     }
 }

@@ -17,10 +17,11 @@ use Rattle.rules.specs.Syntax.{Block, Bound, Config, Expr, assign, dec, empty, 
 use Rattle.place.proofs.PathLaws.{blockSize-plug, plug-spot, spot-is, step-nest-empty, step-spot}
 use Rattle.place.proofs.ProgramBytesLaws.{blockSize-assign, blockSize-empty, blockSize-loop, blockSize-nest}
 use Rattle.record.proofs.HeaderLaws.{length-encodeProgram}
+use Rattle.plan.specs.Plan.{planTurn}
 use Rattle.plan.specs.declared.Plan.{Plan}
 use Rattle.plan.specs.declared.Rule.{Rule}
 use Rattle.plan.proofs.TellsLaws.{Tells, tells-around, tells-raise}
-use Rattle.command.specs.Plan.{planAssign, planLoop, planOf, planSpot}
+use Rattle.command.specs.Plan.{planAssign, planOf, planSpot}
 
 -- of a block whose first command the rules act on
 abbrev TellsSpot : (ℕ → Bool) → List ℕ → Block → Plan → Rule → Type 0
@@ -38,8 +39,8 @@ module _ (ok : ℕ → Bool) (s : List ℕ) (levels p : ℕ) where
       (at (assign x (lit (minusOne (lookup s y))) r) s, refl, omega (arith, blockSize-assign x (dec y) r, blockSize-assign x (lit (minusOne (lookup s y))) r))
 
   tells-loop : (x : ℕ) (n : Bound) (c r : Block) (v : ℕ) → boundValue s n ≡ v
-      → TellsSpot ok s (loop x n c r) (planLoop levels p x (blockSize c) v) ((planLoop levels p x (blockSize c) v) .rule)
-  unfolding planLoop step stepBlock unrollLoop
+      → TellsSpot ok s (loop x n c r) (planTurn levels p x (blockSize c) v) ((planTurn levels p x (blockSize c) v) .rule)
+  unfolding planTurn step stepBlock unrollLoop
   tells-loop x n c r zero e =
       (at (nest empty r) s, ap (λ m. next (at (unrollLoop x m c r) s)) e, omega (arith, blockSize-loop x n c r, blockSize-nest empty r, blockSize-empty))
   tells-loop x n c r (suc q) e = (

@@ -13,12 +13,9 @@ ghost use Rattle.record.specs.Program.{blockSize, boundKind, boundNumber};
 ghost use Rattle.record.specs.Holding.{ProgramIn};
 ghost use Rattle.place.specs.Path.{opensAt, path};
 ghost use Rattle.place.specs.ProgramView.{BlockAt};
-ghost use Rattle.plan.specs.Plan.{plan};
-ghost use Rattle.plan.specs.declared.Rule.the-variants.{Bind};
-ghost use Rattle.command.specs.Plan.{planAssign, planLoop, planOf};
+ghost use Rattle.plan.specs.Plan.{planTurn};
+ghost use Rattle.command.specs.Plan.{planAssign, planOf};
 use plan::Plan;
-use plan::Rule;
-use plan::raise;
 use record::kind::ASSIGNMENT;
 use record::kind::BLOCK;
 use record::kind::LITERAL;
@@ -50,21 +47,6 @@ fn open_levels(buf: &[u8], start: usize) -> usize
     levels
 }
 
-// Rules 3 and 4: the value is stored, and the assignment's 16 bytes go.
-fn look_store(at: usize, levels: usize, variable: u32, value: u32) -> Plan
-    ensures { λ p. ⌜ p ≡ plan levels at Bind variable value 0 16 ⌝ }
-{
-    Plan {
-        rule: Rule::Bind,
-        levels: levels,
-        at: at,
-        variable: variable,
-        value: value,
-        up: 0,
-        down: 16,
-    }
-}
-
 // The plan of an assignment at index at.
 fn look_assign(buf: &[u8], at: usize, levels: usize, store: &[u32], largest: u32) -> Plan
     requires { ⌜ ((x : ℕ) × ((e : Expr) × ((r : Block) × (BlockAt (now buf) at (assign x e r) × ExprWithin (length (now store)) e)))) ⌝ }
@@ -74,25 +56,17 @@ fn look_assign(buf: &[u8], at: usize, levels: usize, store: &[u32], largest: u32
     let kind = buffer::get_u16(buf, at + 10);
     let number = buffer::get_u32(buf, at + 12);
     if kind == LITERAL {
-        return look_store(at, levels, variable, number);
+        return plan::bind(at, levels, variable, number);
     }
     let value = run::value::value_of(store, number);
     if kind == VARIABLE {
-        return look_store(at, levels, variable, value);
+        return plan::bind(at, levels, variable, value);
     }
     if kind == MINUS_ONE {
         let less = run::value::minus_one(value);
-        return Plan {
-            rule: Rule::Evaluate,
-            levels: levels,
-            at: at,
-            variable: variable,
-            value: less,
-            up: 0,
-            down: 0,
-        };
+        return plan::evaluate(at, levels, variable, less, 0);
     }
-    raise(at, levels, variable, value, 0, largest)
+    plan::raise(at, levels, variable, value, 0, largest)
 }
 
 // The value of a loop's bound, a literal or a variable.
@@ -110,33 +84,14 @@ fn bound_value(kind: usize, number: u32, store: &[u32]) -> u32
 // The plan of a loop at index at.
 fn look_loop(buf: &[u8], at: usize, levels: usize, store: &[u32]) -> Plan
     requires { ⌜ ((x : ℕ) × ((b : Bound) × ((c : Block) × ((r : Block) × (BlockAt (now buf) at (loop x b c r) × BoundWithin (length (now store)) b))))) ⌝ }
-    ensures { λ p. ⌜ ((x : ℕ) (b : Bound) (c r : Block) → BlockAt (now (buf .entry)) at (loop x b c r) → BoundWithin (length (now (store .entry))) b → p ≡ planLoop levels at x (blockSize c) (boundValue (now (store .entry)) b)) ⌝ }
+    ensures { λ p. ⌜ ((x : ℕ) (b : Bound) (c r : Block) → BlockAt (now (buf .entry)) at (loop x b c r) → BoundWithin (length (now (store .entry))) b → p ≡ planTurn levels at x (blockSize c) (boundValue (now (store .entry)) b)) ⌝ }
 {
     let variable = buffer::get_u32(buf, at + 4);
     let body = buffer::get_u16(buf, at) - 20;
     let kind = buffer::get_u16(buf, at + 10);
     let number = buffer::get_u32(buf, at + 12);
     let value = bound_value(kind, number, store);
-    if value == 0 {
-        return Plan {
-            rule: Rule::Stop,
-            levels: levels,
-            at: at,
-            variable: variable,
-            value: 0,
-            up: 0,
-            down: 16 + body,
-        };
-    }
-    Plan {
-        rule: Rule::Unroll,
-        levels: levels,
-        at: at,
-        variable: variable,
-        value: value,
-        up: 20 + body,
-        down: 0,
-    }
+    plan::turn(at, levels, variable, value, body)
 }
 
 // The plan of the next step of a program whose contents start at `contents`, with values up to `largest`. Its commands stand
@@ -147,15 +102,7 @@ pub fn look(buf: &[u8], used: usize, store: &[u32], contents: usize, largest: u3
 {
     let start = contents + 4;
     if used == start {
-        return Plan {
-            rule: Rule::Finished,
-            levels: 0,
-            at: start,
-            variable: 0,
-            value: 0,
-            up: 0,
-            down: 0,
-        };
+        return plan::finished(start, 0);
     }
     let levels = open_levels(buf, start);
     let at = start + 4 * levels;
@@ -166,13 +113,5 @@ pub fn look(buf: &[u8], used: usize, store: &[u32], contents: usize, largest: u3
     if kind == LOOP {
         return look_loop(buf, at, levels, store);
     }
-    Plan {
-        rule: Rule::Leave,
-        levels: levels,
-        at: at,
-        variable: 0,
-        value: 0,
-        up: 0,
-        down: 4,
-    }
+    plan::leave(at, levels, 4)
 }

@@ -6,10 +6,15 @@ ghost use Rattle.report.specs.Line.{programBuffer};
 use buffer::get_u16;
 use libc::STDIN_FILENO;
 use libc::STDOUT_FILENO;
+use record::limit::BUFFER;
+use record::limit::VARIABLES;
 use report::line::line;
 
 // A proved loop has to end, and nothing says that an input does: no input has so many bytes.
 const MOST: usize = 9223372036854775807;
+
+// One byte more than the values can take: so too long a rest is seen.
+const KEPT: usize = 4 * VARIABLES as usize + 1;
 
 // The record into the first bytes of a, if they hold one of the length that its first two bytes say. A length under 2 is
 // refused later, whatever follows.
@@ -25,7 +30,7 @@ fn read_record(a: &mut [u8]) -> usize
     if said < 2 {
         return 2;
     }
-    if 16384 < said {
+    if BUFFER < said {
         return 2;
     }
     2 + io::read_full(STDIN_FILENO, &mut a[2..said])
@@ -39,7 +44,7 @@ fn is_short(a: &[u8], record: usize) -> bool
         return true;
     }
     let said = get_u16(a, 0);
-    record < said && said <= 16384
+    record < said && said <= BUFFER
 }
 
 // Of the rest of the input only the number of bytes matters, and of that only that it is too large.
@@ -74,14 +79,14 @@ fn answer(a: &mut [u8], b: &mut [u8])
         print_line(a, b, b"", record);
         return;
     }
-    let mut behind = [0u8; 65];
+    let mut behind = [0u8; KEPT];
     let kept = io::read_full(STDIN_FILENO, &mut behind);
     let total = count_rest(b, record + kept);
     print_line(a, b, &behind[..kept], total);
 }
 
 fn main() {
-    let mut a = [0u8; 16384];
-    let mut b = [0u8; 16384];
+    let mut a = [0u8; BUFFER];
+    let mut b = [0u8; BUFFER];
     answer(&mut a, &mut b);
 }

@@ -60,14 +60,15 @@ pub length-blank : length blank ≡ 17
 unfolding blank
 length-blank = length-replicate 17 stays
 
-getD-stays : (n i : ℕ) → getD (replicate n stays) i stays ≡ stays
-getD-stays zero i = refl
-getD-stays (suc n) zero = refl
-getD-stays (suc n) (suc i) = getD-stays n i
+-- at every index, for what is not there is the same
+pub getD-alike : {A : Type 0} (a : A) (n i : ℕ) → getD (replicate n a) i a ≡ a
+getD-alike a zero i = refl
+getD-alike a (suc n) zero = refl
+getD-alike a (suc n) (suc i) = getD-alike a n i
 
 value-blank : (y : ℕ) → substitutionOf blank y ≡ none
 unfolding substitutionOf valueIf blank
-value-blank y = rw (getD-stays 17 y) refl
+value-blank y = rw (getD-alike stays 17 y) refl
 
 -- one variable
 only-at : (x v : ℕ) → x < 17 → v < stays → (y : ℕ) (b : Bool) → eqb y x ≡ b → substitutionOf (set blank x v) y ≡ cond b (some v) none

@@ -6,7 +6,7 @@ use mathlib.Core.Option.{Option}
 use lib.ListN.{length, length-append}
 use native.Mathlib.Omega.{arith}
 use Rattle.buffer.specs.LittleEndian.{le}
-use Rattle.rules.specs.Syntax.{Block, Bound, Expr, assign, dec, empty, inc, lit, loop, nest, upto, uptoVar, var}
+use Rattle.rules.specs.Syntax.{Block, Bound, Expr, append, assign, dec, empty, inc, lit, loop, nest, upto, uptoVar, var}
 use Rattle.record.specs.Program.{BlockWords, blockSize, boundKind, encodeBlock, encodeBound, encodeExpr, exprKind, exprNumber}
 use Rattle.record.specs.Reading.{encodeLeaf}
 use Rattle.record.specs.Record.{encodeRecord}
@@ -15,7 +15,6 @@ use Rattle.record.proofs.ProgramLaws.{length-encodeBlock}
 use Rattle.record.proofs.ReadingLaws.{length-encodeLeaf}
 use Rattle.record.proofs.RecordLaws.{length-encodeRecord}
 use Rattle.place.specs.Heads.{recordHead}
-use Rattle.place.specs.ProgramView.{append}
 use Rattle.place.proofs.HeadsLaws.{encodeRecord-head}
 
 -- A LEAF

@@ -7,14 +7,14 @@ use lib.ListN.{length, length-append}
 use native.Mathlib.Omega.{arith}
 use Rattle.buffer.specs.LittleEndian.{le, val}
 use Rattle.buffer.specs.Slice.{part}
-use Rattle.rules.specs.Syntax.{Block, Bound, Expr, assign, empty, loop, nest}
+use Rattle.rules.specs.Syntax.{Block, Bound, Expr, append, assign, empty, loop, nest}
 use Rattle.record.specs.Program.{blockSize, boundFrom, boundKind, boundNumber, encodeBlock, encodeBound, encodeExpr, exprFrom, exprKind, exprNumber}
 use Rattle.buffer.proofs.LittleEndianLaws.{length-le}
 use Rattle.record.proofs.ProgramLaws.{length-encodeBlock}
 use Rattle.record.proofs.ReadingLaws.{length-encodeLeaf}
 use Rattle.place.specs.At.{At}
 use Rattle.place.specs.Heads.{recordHead}
-use Rattle.place.specs.ProgramView.{AssignView, BlockAt, CommandView, LoopView, NestView, append, firstAssign, firstLoop, firstNest}
+use Rattle.place.specs.ProgramView.{AssignView, BlockAt, CommandView, LoopView, NestView, firstAssign, firstLoop, firstNest}
 use Rattle.place.proofs.AtLaws.{at-index, at-join, at-part, at-room, at-same, word-read}
 use Rattle.place.proofs.HeadsLaws.{kind-at, leaf-read, length-at, length-recordHead}
 use Rattle.place.proofs.ProgramBytesLaws.{blockSize-append, blockSize-assign, blockSize-empty, blockSize-loop, blockSize-nest, blockSize-zero, boundKind-range, encodeBlock-append, encodeBlock-assign, encodeBlock-loop, encodeBlock-nest, encodeLeaf-head, exprKind-range, words-append}

@@ -14,7 +14,7 @@ use Rattle.record.specs.Term.{atomFrom, atomKind, atomNumber, encodeAtom, encod
 use Rattle.buffer.proofs.LittleEndianLaws.{length-le}
 use Rattle.buffer.proofs.SliceLaws.{put-nil, put-put}
 use Rattle.record.proofs.TermLaws.{length-encodeAtoms}
-use Rattle.record.proofs.WordsLaws.{termSize-substitute}
+use Rattle.record.proofs.SizeLaws.{termSize-substitute}
 use Rattle.record.proofs.HeaderLaws.{length-encodeTermRecord}
 use Rattle.place.specs.At.{At}
 use Rattle.place.specs.Heads.{recordHead}

@@ -1,7 +1,6 @@
 -- What an atom or a term is that stands at an index: one view for each kind.
 use Prim.Native.Nat.{_*_, _+_, _<_, _≤_, suc, zero, ℕ}
 use mathlib.Core.Path.{ap, refl, subst, sym, _∙_, _≡_}
-use mathlib.Core.Logic.{_↔_}
 use mathlib.Core.List.{_++_, List, [], append-assoc, append-nil, _∷_}
 use lib.Dec.{lit<}
 use lib.ListN.{getD, length, length-append}
@@ -16,7 +15,7 @@ use Rattle.record.proofs.TermLaws.{length-encodeAtoms, length-encodeSimple}
 use Rattle.record.proofs.HeaderLaws.{length-encodeTermRecord}
 use Rattle.place.specs.At.{At}
 use Rattle.place.specs.Heads.{recordHead}
-use Rattle.place.specs.TermView.{AtomAt, AtomView, AtomsAt, LetAllView, LetOfView, LetOneView, RecView, TermAt, TermView, TermsAt, TupleView, encodeTerms, isLetAllAt, isLetOneAt, isRecAt, isTupleAt, simpleKind, termsSize}
+use Rattle.place.specs.TermView.{AtomAt, AtomView, AtomsAt, LetAllView, LetOfView, LetOneView, RecView, TermAt, TermView, TupleView, isLetAllAt, isLetOneAt, isRecAt, isTupleAt, simpleKind}
 use Rattle.place.proofs.AtLaws.{at-index, at-part, at-room, at-same, word-read}
 use Rattle.place.proofs.HeadsLaws.{kind-at, leaf-read, length-at, length-recordHead}
 use Rattle.place.proofs.ProgramBytesLaws.{encodeLeaf-head}
@@ -347,32 +346,3 @@ module _ {l : List ℕ} {p k : ℕ} {t : Term} (h : TermAt l p k t) where
     as-letPred e =
         let v = as-letOne one in
         letOf predOf 12 v (kind-pred (v .bound) (sym (v .kind-read) ∙ e)) (simple-high (v .bound) (omega (arith, v .kind-read)))
-
--- TERMS ONE AFTER THE OTHER
-
-pub length-encodeTerms : (ts : List Term) → length (encodeTerms ts) ≡ termsSize ts
-unfolding encodeTerms termsSize
-length-encodeTerms [] = refl
-length-encodeTerms (t ∷ ts) = rw (length-append (encodeTermRecord t) (encodeTerms ts), length-encodeTermRecord t, length-encodeTerms ts)
-
-pub terms-one : {l : List ℕ} {p k : ℕ} {t : Term} → TermAt l p k t → TermsAt l p k (t ∷ [])
-unfolding encodeTerms termsSize
-terms-one {t = t} h = record { here = at-same (h .here) (sym (append-nil (encodeTermRecord t))); words = (h .words, tt); small = omega (arith, h .small) }
-
--- the first, and the others
-pub terms-first : {l : List ℕ} {p k : ℕ} {t : Term} {ts : List Term} → TermsAt l p k (t ∷ ts) → TermAt l p k t × TermsAt l (p + (4 + termSize t)) k ts
-unfolding encodeTerms termsSize
-terms-first {l} {p} {k} {t} {ts} h = (
-  record { here = at-part (h .here) [] (encodeTermRecord t) (encodeTerms ts) p refl (omega arith); words = h .words .0; small = omega (arith, h .small) },
-  record {
-    here = at-part (h .here) (encodeTermRecord t) (encodeTerms ts) [] (p + (4 + termSize t)) (simp append-nil) (ap (λ (y : ℕ). p + y) (length-encodeTermRecord t));
-    words = h .words .1;
-    small = omega (arith, h .small);
-  },
-)
-
--- nothing is left exactly of none
-pub terms-end : (ts : List Term) (p to : ℕ) → p + termsSize ts ≡ to → (p ≡ to) ↔ (ts ≡ [])
-unfolding termsSize
-terms-end [] p to e = ((λ h. refl), (λ h. omega arith))
-terms-end (t ∷ ts) p to e = ((λ h. absurd (omega arith)), (λ h. absurd (let z : _≡_ {A = ℕ} 0 1 = cc in omega arith)))

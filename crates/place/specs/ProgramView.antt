@@ -5,16 +5,9 @@ use mathlib.Core.List.{List}
 use lib.ListN.{length}
 use Rattle.buffer.specs.LittleEndian.{le, val}
 use Rattle.buffer.specs.Slice.{part}
-use Rattle.rules.specs.Syntax.{Block, Bound, Expr, assign, empty, loop, nest}
+use Rattle.rules.specs.Syntax.{Block, Bound, Expr, append, assign, loop, nest}
 use Rattle.record.specs.Program.{BlockWords, blockSize, boundKind, boundNumber, encodeBlock, encodeBound, encodeExpr, exprKind, exprNumber}
 use Rattle.place.specs.At.{At}
-
--- The commands of b, and then those of c.
-unfoldable pub append : Block → Block → Block
-append empty c = c
-append (assign x e r) c = assign x e (append r c)
-append (loop x n p r) c = loop x n p (append r c)
-append (nest p r) c = nest p (append r c)
 
 -- The commands of b stand at index p, one record after the other; their numbers take 4 bytes and their lengths 2.
 pub record BlockAt (l : List ℕ) (p : ℕ) (b : Block) : Type 0 where

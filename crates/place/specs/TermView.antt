@@ -1,7 +1,7 @@
 -- What an atom or a term is that is known to stand at an index, by the kind that is read there (01 "Records").
 use Prim.Native.Nat.{_*_, _+_, _<_, _≤_, ℕ}
 use mathlib.Core.Path.{_≡_}
-use mathlib.Core.List.{_++_, List, [], _∷_}
+use mathlib.Core.List.{List}
 use lib.ListN.{length}
 use Rattle.buffer.specs.LittleEndian.{le, val}
 use Rattle.buffer.specs.Slice.{part}
@@ -132,26 +132,3 @@ pub data TermView (l : List ℕ) (p k : ℕ) (t : Term) : ℕ → Type 0 where
   isLetOneAt : LetOneView l p k t → TermView l p k t 37
   isLetAllAt : LetAllView l p k t → TermView l p k t 38
   isRecAt : RecView l p k t → TermView l p k t 39
-
--- TERMS ONE AFTER THE OTHER, for a scan that steps into heads
-
--- Their records.
-unfoldable pub encodeTerms : List Term → List ℕ
-encodeTerms [] = []
-encodeTerms (t ∷ ts) = encodeTermRecord t ++ encodeTerms ts
-
--- The length of that.
-unfoldable pub termsSize : List Term → ℕ
-termsSize [] = 0
-termsSize (t ∷ ts) = 4 + termSize t + termsSize ts
-
--- Each has its numbers in 4 bytes, and tuples of k atoms.
-abbrev pub TermsWords : ℕ → List Term → Type 0
-TermsWords k [] = Unit {0}
-TermsWords k (t ∷ ts) = TermWords k t × TermsWords k ts
-
--- They stand at index p.
-pub record TermsAt (l : List ℕ) (p k : ℕ) (ts : List Term) : Type 0 where
-  pub here : At l p (encodeTerms ts)
-  pub words : TermsWords k ts
-  pub small : termsSize ts < 65536

@@ -1,2 +1,2 @@
-pub mod RaiseLaws
+pub mod CaseLaws
 pub mod TellsLaws

@@ -1,10 +1,11 @@
 // What the next step is, looked up before a byte is written (01 "Stepper", "Reducer"). It is the same for both engines, because
 // they run in lock step: a rule of the one is a rule of the other.
 ghost use mathlib.Core.Path.{_≡_};
-ghost use Prim.Native.Nat.{suc, _≤_};
+ghost use Prim.Native.Nat.{suc, _<_, _≤_};
 ghost use Rattle.rules.specs.Store.{upTo};
 ghost use Rattle.run.specs.Represents.{asOutcome};
-ghost use Rattle.plan.specs.Plan.{planRaise, planReads};
+ghost use Rattle.plan.specs.declared.Rule.the-variants.{Bind, Evaluate, Finished, Leave};
+ghost use Rattle.plan.specs.Plan.{plan, planRaise, planReads, planTurn};
 use run::Outcome;
 
 // What the next step does, in the stepper and in the reducer. Finished and Over make none; the others are the edits that the
@@ -39,30 +40,76 @@ pub struct Plan {
     pub down: usize,
 }
 
-// The plan of plus one, or succ, of this value: `down` bytes go where it becomes the literal or numeral.
+// Every plan is made here. The functions behind it are the plans by what the step does, for both engines.
+fn make(
+    rule: Rule,
+    at: usize,
+    levels: usize,
+    variable: u32,
+    value: u32,
+    up: usize,
+    down: usize,
+) -> Plan
+    ensures { λ p. ⌜ p ≡ plan levels at rule variable value up down ⌝ }
+{
+    Plan {
+        rule: rule,
+        levels: levels,
+        at: at,
+        variable: variable,
+        value: value,
+        up: up,
+        down: down,
+    }
+}
+
+// No step.
+pub fn finished(at: usize, levels: usize) -> Plan
+    ensures { λ p. ⌜ p ≡ plan levels at Finished 0 0 0 0 ⌝ }
+{
+    make(Rule::Finished, at, levels, 0, 0, 0, 0)
+}
+
+// The 16 bytes of an assignment go, and so do those of a let-one before its last term.
+pub fn bind(at: usize, levels: usize, variable: u32, value: u32) -> Plan
+    ensures { λ p. ⌜ p ≡ plan levels at Bind variable value 0 16 ⌝ }
+{
+    make(Rule::Bind, at, levels, variable, value, 0, 16)
+}
+
+// `down` bytes go where an expression becomes a literal, or succ or pred the numeral.
+pub fn evaluate(at: usize, levels: usize, variable: u32, value: u32, down: usize) -> Plan
+    ensures { λ p. ⌜ p ≡ plan levels at Evaluate variable value 0 down ⌝ }
+{
+    make(Rule::Evaluate, at, levels, variable, value, 0, down)
+}
+
+// `down` bytes go with an empty block, or with a let-all and its tuple.
+pub fn leave(at: usize, levels: usize, down: usize) -> Plan
+    ensures { λ p. ⌜ p ≡ plan levels at Leave 0 0 0 down ⌝ }
+{
+    make(Rule::Leave, at, levels, 0, 0, 0, down)
+}
+
+// Plus one, or succ, of this value.
 pub fn raise(at: usize, levels: usize, variable: u32, value: u32, down: usize, largest: u32) -> Plan
     ensures { λ p. ⌜ p ≡ planRaise levels at variable (suc value) down (upTo largest (suc value)) ⌝ }
 {
     if largest <= value {
-        return Plan {
-            rule: Rule::Over,
-            levels: levels,
-            at: at,
-            variable: variable,
-            value: 0,
-            up: 0,
-            down: 0,
-        };
+        return make(Rule::Over, at, levels, variable, 0, 0, 0);
     }
-    Plan {
-        rule: Rule::Evaluate,
-        levels: levels,
-        at: at,
-        variable: variable,
-        value: value + 1,
-        up: 0,
-        down: down,
+    evaluate(at, levels, variable, value + 1, down)
+}
+
+// A loop, or a rec, by the value of its bound or count. `body` bytes are the loop's commands, or the record of the rec's body.
+pub fn turn(at: usize, levels: usize, variable: u32, value: u32, body: usize) -> Plan
+    requires { ⌜ body < 65536 ⌝ }
+    ensures { λ p. ⌜ p ≡ planTurn levels at variable body value ⌝ }
+{
+    if value == 0 {
+        return make(Rule::Stop, at, levels, variable, 0, 0, 16 + body);
     }
+    make(Rule::Unroll, at, levels, variable, value, 20 + body, 0)
 }
 
 // The outcome that a state of `used` bytes reads, first match, from the plan of its next step. What comes is added before what

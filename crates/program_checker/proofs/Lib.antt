@@ -1,2 +1,3 @@
+pub mod CommandRowLaws
 pub mod KindLaws
 pub mod ProgramVerdictLaws

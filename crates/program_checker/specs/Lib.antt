@@ -1,2 +1,2 @@
 pub mod BlockVerdict
-pub mod Opens
+pub mod OpensCommand

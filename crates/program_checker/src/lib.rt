@@ -8,15 +8,17 @@ use checker::check_header;
 use checker::check_variable;
 use checker::number_of;
 use checker::worst;
+use reader::Head;
 use record::Sort;
 use record::kind::ASSIGNMENT;
 use record::kind::BLOCK;
 use record::kind::LITERAL;
 use record::kind::LOOP;
 use record::kind::VARIABLE;
+use record::refusal::BAD_BUFFER;
 ghost use mathlib.Core.Bool.{false};
 ghost use mathlib.Core.Path.{_≡_};
-ghost use lib.ListN.{length};
+ghost use lib.ListN.{drop, length};
 ghost use Rattle.rules.specs.Scope.{boundInRange, exprInRange};
 ghost use Rattle.record.specs.Answers.{checkProgram};
 ghost use Rattle.record.specs.Front.{Front, only, u16};
@@ -27,10 +29,10 @@ ghost use Rattle.checker.specs.Answer.{asChecked};
 ghost use Rattle.checker.specs.Verdict.{verdict};
 ghost use Rattle.checker.specs.declared.Verdict.the-variants.{Malformed};
 ghost use Rattle.program_checker.specs.BlockVerdict.{blockVerdict};
-ghost use Rattle.program_checker.specs.Opens.{Opens};
+ghost use Rattle.program_checker.specs.OpensCommand.{ChecksCommand, OpensCommand};
 
-// The head of a command: what it was found to be, and where the commands inside it start.
-struct Head {
+// A command that was opened: what its head was found to be, and where the commands inside it start.
+struct Opened {
     verdict: Verdict,
     inner: usize,
 }
@@ -82,27 +84,27 @@ fn check_assignment(s: &[u8], k: u32) -> Verdict
     )
 }
 
-// The head of a record that is no command: it takes all of the record, and nothing is inside it.
-fn no_command(length: usize) -> Head
+// A record that is no command: its head takes all of it, and nothing is inside.
+fn no_command(length: usize) -> Opened
     ensures { λ r. ⌜ (r .verdict ≡ Malformed) × (r .inner ≡ length) ⌝ }
 {
-    Head {
+    Opened {
         verdict: Verdict::Malformed,
         inner: length,
     }
 }
 
-fn open_loop(s: &[u8], k: u32) -> Head
+fn open_loop(s: &[u8], k: u32) -> Opened
     requires { ⌜ Front (now s) (length (now s)) ⌝ }
     requires { ⌜ u16 (now s) 2 ≡ 3 ⌝ }
-    ensures { λ r. ⌜ Opens k (now (s .entry)) (r .verdict) (r .inner) ⌝ }
+    ensures { λ r. ⌜ OpensCommand k (now (s .entry)) (r .verdict) (r .inner) ⌝ }
 {
     if s.len() < 20 {
         return no_command(s.len());
     }
-    if record::is_only(&s[16..], BLOCK) {
+    if reader::only_at(s, 16, BLOCK) {
         let index = check_variable(buffer::get_u32(s, 4), k);
-        Head {
+        Opened {
             verdict: worst(index, check_bound(&s[8..16], k)),
             inner: 20,
         }
@@ -112,18 +114,18 @@ fn open_loop(s: &[u8], k: u32) -> Head
 }
 
 // The class decides, then the kind; a program's own is no command's. A head with nothing inside ends where the record ends.
-fn open_command(s: &[u8], k: u32) -> Head
+fn open_command(s: &[u8], k: u32) -> Opened
     requires { ⌜ Front (now s) (length (now s)) ⌝ }
-    ensures { λ r. ⌜ Opens k (now (s .entry)) (r .verdict) (r .inner) ⌝ }
+    ensures { λ r. ⌜ OpensCommand k (now (s .entry)) (r .verdict) (r .inner) ⌝ }
 {
     let kind = buffer::get_u16(s, 2);
     match record::class_of(kind) {
         record::Class::Program => match kind {
-            BLOCK => Head {
+            BLOCK => Opened {
                 verdict: Verdict::Good,
                 inner: 4,
             },
-            ASSIGNMENT => Head {
+            ASSIGNMENT => Opened {
                 verdict: check_assignment(s, k),
                 inner: s.len(),
             },
@@ -136,7 +138,8 @@ fn open_command(s: &[u8], k: u32) -> Head
     }
 }
 
-// The contents of a block's record: its commands in a row, from `at` up to `end` those that are left to check.
+// The contents of a block's record: its commands in a row, from `at` up to `end` those that are left to check. A call for an
+// empty row would cost as much as a small command, so none is made here or in `check_command`.
 fn check_block(s: &[u8], k: u32) -> Verdict
     ensures { λ r. ⌜ r ≡ blockVerdict k (decodeBlock (now (s .entry))) ⌝ }
 {
@@ -144,42 +147,54 @@ fn check_block(s: &[u8], k: u32) -> Verdict
     let mut at = 0;
     let mut end = s.len();
     while at < end {
-        let n = record::first_length(&s[at..end]);
-        if n == 0 {
-            return Verdict::Malformed;
-        }
-        let next = at + n;
-        let head = open_command(&s[at..next], k);
-        let verdict = head.verdict;
-        let inner = head.inner;
-        if n <= end - next {
-            found = worst(found, check_command(&s[at..next], k, verdict, inner));
-            at = next;
-        } else {
-            found = worst(found, check_block(&s[next..end], k));
-            found = worst(found, verdict);
-            at += inner;
-            end = next;
+        match reader::head_at(&s[..end], at) {
+            Head::Record(length, _) => {
+                let next = reader::after(&s[..end], at);
+                let whole = length <= end - next;
+                if !whole {
+                    if next < end {
+                        found = worst(found, check_block(&s[next..end], k));
+                        end = next;
+                    }
+                }
+                let opened = check_command(&s[at..next], k, whole);
+                let verdict = opened.verdict;
+                found = worst(found, verdict);
+                at += opened.inner;
+            }
+            Head::End => return Verdict::Malformed,
+            Head::Short => return Verdict::Malformed,
         }
     }
     found
 }
 
-// One command's record, which is a row of one command. Its head is opened by the caller, who needs it in either case: a head
-// here as well would be on the stack once for each level.
-fn check_command(s: &[u8], k: u32, verdict: Verdict, inner: usize) -> Verdict
-    requires { ⌜ Opens k (now s) verdict inner ⌝ }
-    ensures { λ r. ⌜ r ≡ blockVerdict k (decodeBlock (now (s .entry))) ⌝ }
+// One command's record: its head is opened and judged here alone. Where the whole of it is asked for, the commands inside are
+// checked too, and none is left.
+fn check_command(s: &[u8], k: u32, whole: bool) -> Opened
+    requires { ⌜ Front (now s) (length (now s)) ⌝ }
+    ensures { λ r. ⌜ ChecksCommand k (now (s .entry)) whole (r .verdict) (r .inner) ⌝ }
 {
-    worst(verdict, check_block(&s[inner..], k))
+    let opened = open_command(s, k);
+    let head = opened.verdict;
+    let inner = opened.inner;
+    if whole {
+        if inner < s.len() {
+            return Opened {
+                verdict: worst(head, check_block(&s[inner..], k)),
+                inner: s.len(),
+            };
+        }
+    }
+    opened
 }
 
-// What follows a program's header: one block.
-fn check_contents(s: &[u8], k: u32) -> Verdict
-    ensures { λ r. ⌜ r ≡ blockVerdict k (blockIn (now (s .entry))) ⌝ }
+// What stands behind a program's header: one block.
+fn check_contents(s: &[u8], start: usize, k: u32) -> Verdict
+    ensures { λ r. ⌜ r ≡ blockVerdict k (blockIn (drop start (now (s .entry)))) ⌝ }
 {
-    if record::is_only(s, BLOCK) {
-        check_block(&s[4..], k)
+    if reader::only_at(s, start, BLOCK) {
+        check_block(&s[start + 4..], k)
     } else {
         Verdict::Malformed
     }
@@ -196,14 +211,14 @@ pub fn check_record(buf: &[u8], used: usize) -> Checked
     }
     let h = record::read_header(buf);
     let start = h.contents_at();
-    answer(number_of(check_contents(&buf[start..used], h.k)), h.k)
+    answer(number_of(check_contents(&buf[..used], start, h.k)), h.k)
 }
 
 pub fn check_program(buf: &[u8], used: usize) -> Checked
     ensures { λ r. ⌜ asChecked r ≡ checkProgram (now (buf .entry)) used ⌝ }
 {
     if bad_buffer(buf, used) {
-        return answer(1, 0);
+        return answer(BAD_BUFFER, 0);
     }
     check_record(buf, used)
 }

@@ -1,1 +1,2 @@
-pub mod CommandBytes
+pub mod CommandSize
+pub mod OpenRecords

@@ -5,9 +5,9 @@ use denote.Ref.{RefT, now}
 use Rattle.reader.specs.Head.{nextAt}
 use Rattle.reader.specs.declared.Reader.{Reader}
 
--- The lent bytes, from their start.
-abbrev pub startOf : RefT (List ℕ) → Reader
-startOf s = record { bytes = s; place = 0 }
+-- The lent bytes, at a place.
+abbrev pub readerAt : RefT (List ℕ) → ℕ → Reader
+readerAt s at = record { bytes = s; place = at }
 
 -- The same bytes, past the record at the reader's place.
 abbrev pub onwardOf : Reader → Reader

@@ -24,7 +24,7 @@ use Rattle.place.proofs.TermBytesLaws.{atomKind-range, kind-num, kind-ref}
 use Rattle.place.proofs.TermViewLaws.{as-letAll, as-letAtom, as-letPred, as-letSucc, as-rec, as-tuple, simple-kind, term-view}
 use Rattle.record.proofs.RowLaws.{isNone-none, isNone-some}
 use Rattle.recognition.specs.Recognition.{accepts, hasExpr, isLetAll, isRef, legal, recognised}
-use Rattle.recognition.specs.Scan.{TermsAt, inner, ownSize}
+use Rattle.recognition.specs.Scan.{TermsUpTo, inner, ownSize}
 use Rattle.recognition.proofs.ScanLaws.{terms-end, terms-first, terms-record}
 
 -- THE SOURCE OF A TERM, by the sources of the terms inside it
@@ -171,7 +171,7 @@ isLetAll-kind {l} {p} {k} {t} h = go (val (part l (p + 2) 2)) (term-view h)
 -- When the loop comes to index `at`, whether t is a translation is the same question of the terms that are left.
 pub record ToRecognise (l : List ℕ) (k used : ℕ) (first : Bool) (at : ℕ) (t : Term) : Type 0 where
   pub terms : List Term
-  pub row : TermsAt l k used at terms
+  pub row : TermsUpTo l k used at terms
   pub same : recognised k first terms ≡ not (isNone (readBack k t))
 
 pub recognise-start : {h : Header} {t : Term} {l : List ℕ} {used n : ℕ} → TermIn allVars h t l used → length l ≤ 16384 → n ≡ contentsAt h → ToRecognise l (h .k) used false n t

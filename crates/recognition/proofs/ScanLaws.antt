@@ -16,20 +16,27 @@ use Rattle.rules.specs.Syntax.{Term, letAll, letOne, rec, tuple}
 use Rattle.place.proofs.WholeLaws.{term-from, term-used}
 use Rattle.place.proofs.TermBytesLaws.{simple-high, simple-low}
 use Rattle.place.proofs.TermViewLaws.{as-letAll, as-letOne, as-rec, as-tuple, term-index, term-kind, term-room, term-view}
-use Rattle.recognition.specs.Scan.{TermsAt, ended, followed, inner, ownSize}
+use Rattle.recognition.specs.Scan.{TermsUpTo, ended, followed, inner, ownSize}
 
 -- THE ROW OF TERMS THAT ARE LEFT
 
-pub terms-index : {l : List ℕ} {k to p q : ℕ} {ts : List Term} → TermsAt l k to p ts → p ≡ q → TermsAt l k to q ts
-terms-index {l} {k} {to} {p} {q} {ts} h e = subst (λ (n : ℕ). TermsAt l k to n ts) e h
+pub terms-index : {l : List ℕ} {k to p q : ℕ} {ts : List Term} → TermsUpTo l k to p ts → p ≡ q → TermsUpTo l k to q ts
+terms-index {l} {k} {to} {p} {q} {ts} h e = subst (λ (n : ℕ). TermsUpTo l k to n ts) e h
 
-pub terms-order : {l : List ℕ} {k to p : ℕ} {ts : List Term} → TermsAt l k to p ts → p ≤ to
+pub terms-order : {l : List ℕ} {k to p : ℕ} {ts : List Term} → TermsUpTo l k to p ts → p ≤ to
 terms-order (ended e) = omega arith
 terms-order (followed h r) = omega (arith, terms-order r)
 
-pub terms-end : {l : List ℕ} {k to p : ℕ} {ts : List Term} → TermsAt l k to p ts → to ≤ p → ts ≡ []
+pub terms-end : {l : List ℕ} {k to p : ℕ} {ts : List Term} → TermsUpTo l k to p ts → to ≤ p → ts ≡ []
 terms-end (ended e) b = refl
 terms-end (followed h r) b = absurd (omega (arith, terms-order r))
+
+-- no term is left exactly at the end
+pub terms-none : {l : List ℕ} {k to p : ℕ} → TermsUpTo l k to p [] → p ≡ to
+terms-none (ended e) = e
+
+pub terms-some : {l : List ℕ} {k to p : ℕ} {t : Term} {ts : List Term} → TermsUpTo l k to p (t ∷ ts) → p < to
+terms-some (followed h r) = omega (arith, terms-order r)
 
 -- A scan that has not come to the end stands at a term.
 pub record First (l : List ℕ) (k to p : ℕ) (ts : List Term) : Type 0 where
@@ -37,18 +44,18 @@ pub record First (l : List ℕ) (k to p : ℕ) (ts : List Term) : Type 0 where
   pub rest : List Term
   pub is : ts ≡ term ∷ rest
   pub here : TermAt l p k term
-  pub after : TermsAt l k to (p + ownSize term) (inner term ++ rest)
+  pub after : TermsUpTo l k to (p + ownSize term) (inner term ++ rest)
 
 -- what stands behind a term's own bytes
-inside : {l : List ℕ} {k to p : ℕ} {t : Term} {ts : List Term} → TermAt l p k t → TermsAt l k to (p + (4 + termSize t)) ts
-    → TermsAt l k to (p + ownSize t) (inner t ++ ts)
+inside : {l : List ℕ} {k to p : ℕ} {t : Term} {ts : List Term} → TermAt l p k t → TermsUpTo l k to (p + (4 + termSize t)) ts
+    → TermsUpTo l k to (p + ownSize t) (inner t ++ ts)
 unfolding inner ownSize
 inside {l} {k} {to} {p} {t} {ts} h r = go (val (part l (p + 2) 2)) (term-view h)
   where
-    moved : (n : ℕ) (us : List Term) → ownSize t ≡ n → inner t ++ ts ≡ us → TermsAt l k to (p + n) us → TermsAt l k to (p + ownSize t) (inner t ++ ts)
+    moved : (n : ℕ) (us : List Term) → ownSize t ≡ n → inner t ++ ts ≡ us → TermsUpTo l k to (p + n) us → TermsUpTo l k to (p + ownSize t) (inner t ++ ts)
     moved n us e f s = rw (e, f) s
 
-    go : (n : ℕ) → TermView l p k t n → TermsAt l k to (p + ownSize t) (inner t ++ ts)
+    go : (n : ℕ) → TermView l p k t n → TermsUpTo l k to (p + ownSize t) (inner t ++ ts)
     go _ (isTupleAt v) =
         moved (4 + 8 * length (v .atoms)) ts (ap ownSize (v .is)) (ap (λ (u : Term). inner u ++ ts) (v .is)) (terms-index r (omega (arith, v .size, v .count)))
     go _ (isLetOneAt v) =
@@ -61,16 +68,19 @@ inside {l} {k} {to} {p} {t} {ts} h r = go (val (part l (p + 2) 2)) (term-view h)
         moved (20 + 8 * length (v .start)) (v .body ∷ ts) (ap ownSize (v .is)) (ap (λ (u : Term). inner u ++ ts) (v .is))
         (followed (term-index (v .body-at) (omega (arith, v .start-length))) (terms-index r (omega (arith, v .size, v .start-length))))
 
-pub terms-first : {l : List ℕ} {k to p : ℕ} {ts : List Term} → TermsAt l k to p ts → p < to → First l k to p ts
+pub terms-step : {l : List ℕ} {k to p : ℕ} {t : Term} {ts : List Term} → TermsUpTo l k to p (t ∷ ts) → TermAt l p k t × TermsUpTo l k to (p + ownSize t) (inner t ++ ts)
+terms-step (followed h r) = (h, inside h r)
+
+pub terms-first : {l : List ℕ} {k to p : ℕ} {ts : List Term} → TermsUpTo l k to p ts → p < to → First l k to p ts
 terms-first (ended e) b = absurd (omega arith)
 terms-first (followed {p} {t} {ts} h r) b = record { term = t; rest = ts; is = refl; here = h; after = inside h r }
 
 -- one term is a row
-pub terms-one : {l : List ℕ} {k to p : ℕ} {t : Term} → TermAt l p k t → p + (4 + termSize t) ≡ to → TermsAt l k to p (t ∷ [])
+pub terms-one : {l : List ℕ} {k to p : ℕ} {t : Term} → TermAt l p k t → p + (4 + termSize t) ≡ to → TermsUpTo l k to p (t ∷ [])
 terms-one h e = followed h (ended e)
 
 -- and so is the term of a record
-pub terms-record : {S : Vars} {h : Header} {t : Term} {l : List ℕ} {used n : ℕ} → TermIn S h t l used → length l ≤ 16384 → n ≡ contentsAt h → TermsAt l (h .k) used n (t ∷ [])
+pub terms-record : {S : Vars} {h : Header} {t : Term} {l : List ℕ} {used n : ℕ} → TermIn S h t l used → length l ≤ 16384 → n ≡ contentsAt h → TermsUpTo l (h .k) used n (t ∷ [])
 terms-record p b e = terms-one (term-from p b e) (omega (arith, term-used p))
 
 -- a term has at least its length and its kind
@@ -82,7 +92,7 @@ own-some (letAll s u) = omega arith
 own-some (rec x a ys u) = omega arith
 
 -- a step forward, and not past the end
-pub terms-pass : {l : List ℕ} {k to p : ℕ} {ts : List Term} → TermsAt l k to p ts → p < to → (n : ℕ) → ((t : Term) → TermAt l p k t → n ≡ ownSize t)
+pub terms-pass : {l : List ℕ} {k to p : ℕ} {ts : List Term} → TermsUpTo l k to p ts → p < to → (n : ℕ) → ((t : Term) → TermAt l p k t → n ≡ ownSize t)
     → (0 < n) × (p + n ≤ to)
 terms-pass h b n e =
     let f = terms-first h b in

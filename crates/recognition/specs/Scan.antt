@@ -8,9 +8,9 @@ use Rattle.record.specs.Term.{simpleSize, termSize}
 use Rattle.rules.specs.Syntax.{Term, letAll, letOne, rec, tuple}
 
 -- The terms stand one after the other from index p up to index `to`.
-pub data TermsAt (l : List ℕ) (k to : ℕ) : ℕ → List Term → Type 0 where
-  ended : {p : ℕ} → p ≡ to → TermsAt l k to p []
-  followed : {p : ℕ} {t : Term} {ts : List Term} → TermAt l p k t → TermsAt l k to (p + (4 + termSize t)) ts → TermsAt l k to p (t ∷ ts)
+pub data TermsUpTo (l : List ℕ) (k to : ℕ) : ℕ → List Term → Type 0 where
+  ended : {p : ℕ} → p ≡ to → TermsUpTo l k to p []
+  followed : {p : ℕ} {t : Term} {ts : List Term} → TermAt l p k t → TermsUpTo l k to (p + (4 + termSize t)) ts → TermsUpTo l k to p (t ∷ ts)
 
 -- The terms directly inside a term, in the order of the bytes.
 unfoldable pub inner : Term → List Term

@@ -1,7 +1,7 @@
--- Laws of what stands first, by its places: the length of the record there, its kind and contents, and what follows it.
+-- Laws of what stands first, by its places: that a record does, its kind and contents, and what follows it.
 use Prim.Native.Nat.{_+_, _-_, _<_, suc, ℕ, _≤_}
 use mathlib.Core.Path.{_≡_, ap, refl, sym, _∙_}
-use mathlib.Core.Bool.{Bool, false, not, true}
+use mathlib.Core.Bool.{Bool, false, true}
 use mathlib.Core.List.{List, [], _∷_}
 use mathlib.Core.Option.{Option, none, some}
 use borrow.Author.Tests.{eq-eqb, eqb-false, eqb-true, le-leb, not-true}
@@ -11,15 +11,13 @@ use lib.Seq.{drop-length, length-take-le, take-all, take-take}
 use native.Mathlib.Omega.{arith}
 use Rattle.buffer.specs.LittleEndian.{val}
 use Rattle.buffer.specs.Slice as slice
-use Rattle.buffer.proofs.SliceLaws.{length-part}
-use Rattle.record.specs.Front.{Front, firstLength, isOnly, only, splitLength, u16}
+use Rattle.record.specs.Front.{Front, isOnly, only, u16}
 use Rattle.record.specs.Reading.{Got, atEnd, fail, got, ofKind, sub, subOf, then}
 use Rattle.record.specs.Record.{Split, bad, cut, end, part, split}
 use Rattle.record.specs.Rows.{isNone}
 use Rattle.record.proofs.ReadingLaws.{atEnd-inv, sub-part, then-inv}
 use Rattle.record.proofs.RecordLaws.{split-end, split-length, split-taken}
-use Rattle.record.proofs.RowLaws.{is-some, isNone-some}
-use Rattle.rules.proofs.Tests.{true-false}
+use Rattle.record.proofs.RowLaws.{is-some}
 
 -- an option that holds nothing
 pub none-unless : {A : Type 0} (o : Option A) → ((a : A) → o ≡ some a → ⊥) → o ≡ none
@@ -58,44 +56,18 @@ split-kind l k b r e =
     let t = split-taken l k b r e in
     t .is-kind ∙ sym (ap (λ (x : List ℕ). u16 x 2) (t .all))
 
--- THE LENGTH OF THE RECORD IN FRONT
-
 module _ (l : List ℕ) where
-  pub first-yes : (n : ℕ) → Front l n → firstLength l ≡ n
-  unfolding firstLength splitLength
-  first-yes n f =
-      let b : length (slice.part l 4 (n - 4)) ≡ n - 4 = length-part l 4 (n - 4) (omega (arith, f .least, f .most)) in
-      rw (front-split l n f) (omega (arith, f .least))
-
-  pub first-no : (4 ≤ u16 l 0 → u16 l 0 ≤ length l → ⊥) → firstLength l ≡ 0
-  unfolding firstLength splitLength
-  first-no h = go (split l) refl
+  -- where bytes are left and no record stands
+  pub no-front : 0 < length l → (4 ≤ u16 l 0 → u16 l 0 ≤ length l → ⊥) → split l ≡ bad
+  no-front left h = go (split l) refl
     where
-      go : (s : Split) → split l ≡ s → splitLength s ≡ 0
-      go end e = refl
-      go bad e = refl
+      go : (s : Split) → split l ≡ s → split l ≡ bad
+      go end e = absurd (omega (arith, ap length (split-end l e)))
+      go bad e = e
       go (part k b r) e =
           let f = split-front l k b r e in
           let v = f .stored in
           absurd (h (omega (arith, f .least)) (omega (arith, f .most)))
-
-  pub first-front : (firstLength l ≡ 0 → ⊥) → Front l (firstLength l)
-  unfolding firstLength splitLength
-  first-front h = go (split l) refl h
-    where
-      go : (s : Split) → split l ≡ s → (splitLength s ≡ 0 → ⊥) → Front l (splitLength s)
-      go end e n = absurd (n refl)
-      go bad e n = absurd (n refl)
-      go (part k b r) e n = split-front l k b r e
-
-  pub first-bad : 0 < length l → firstLength l ≡ 0 → split l ≡ bad
-  unfolding firstLength splitLength
-  first-bad p h = go (split l) refl h
-    where
-      go : (s : Split) → split l ≡ s → splitLength s ≡ 0 → split l ≡ bad
-      go end e z = absurd (omega (arith, ap length (split-end l e)))
-      go bad e z = e
-      go (part k b r) e z = absurd (omega arith)
 
   -- the record itself, without what follows it
   pub front-take : (n : ℕ) → Front l n → Front (take n l) n
@@ -169,7 +141,3 @@ module _ (kind : ℕ) (l : List ℕ) where
 
   pub isOnly-some : isOnly kind l ≡ true → only (sub kind l) ≡ some (drop 4 l)
   isOnly-some e = let f = isOnly-found e in alone-yes (f .0) (f .1)
-
-  pub isOnly-none : isOnly kind l ≡ false → only (sub kind l) ≡ none
-  unfolding isOnly isNone
-  isOnly-none e = none-unless (only (sub kind l)) λ b p. true-false (sym (ap not (isNone-some (only (sub kind l)) b p)) ∙ e)

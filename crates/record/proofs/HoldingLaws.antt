@@ -2,7 +2,7 @@
 use Prim.Native.Nat.{_<_, ℕ, _≤_}
 use mathlib.Core.Path.{ap, ap₂, refl, subst, sym, _∙_, _≡_}
 use mathlib.Core.Logic.{_↔_}
-use mathlib.Core.Bool.{Bool, false, not, true, _||_}
+use mathlib.Core.Bool.{Bool, false, not, true}
 use mathlib.Core.List.{List, [], _∷_}
 use mathlib.Core.Option.{some}
 use borrow.Author.Tests.{not-false}
@@ -12,7 +12,7 @@ use native.Mathlib.Omega.{arith}
 use Rattle.buffer.specs.LittleEndian.{Bytes}
 use Rattle.rules.specs.FreeVariables.{Vars, allVars, closed}
 use Rattle.rules.specs.Scope.{BlockWithin, blockInRange, termInRange}
-use Rattle.rules.specs.Sound.{SmallBlock, SoundTerm}
+use Rattle.rules.specs.Sound.{SoundTerm}
 use Rattle.rules.specs.Syntax.{Atom, Block, Term, empty, tuple}
 use Rattle.rules.proofs.FreeVariablesLaws.{all-closed}
 use Rattle.rules.proofs.ScopeLaws.{blockInRange-within, within-blockInRange}
@@ -20,25 +20,32 @@ use Rattle.rules.proofs.SoundTermLaws.{sound-inRange}
 use Rattle.record.specs.Answers.{Checked, checkProgram, checkProgramRows, checkTerm, checkTermRows, checkedBy, padded}
 use Rattle.record.specs.declared.Header.{Header}
 use Rattle.record.specs.Header.{HeaderFits, blockBytes, blockIn, contents, contentsAt, encodeProgram, encodeTerm, headed, headerIn, kField, okOf, program, term, termIn}
-use Rattle.record.specs.Holding.{ProgramIn, TermIn}
+use Rattle.record.specs.Holding.{IsProgram, ProgramIn, TermIn}
 use Rattle.record.specs.Program.{BlockWords}
 use Rattle.record.specs.Rows.{NoRow, Row, badBlock, badBuffer, badHeader, badStore, badTerm, blockOf, blockOutside, finishedTerm, firstRow, headerOf, kOf, openTerm, programOf, programRows, row, termOf, termOutside, termRows, theTermOf, unfinished}
 use Rattle.record.specs.Term.{TermWords, encodeTermRecord}
 use Rattle.record.proofs.AnswerLaws.{checked-accepted, checked-number}
 use Rattle.record.proofs.PaddedLaws.{fits-padded, take-padded}
 use Rattle.record.proofs.HeaderLaws.{blockIn-bytes, blockIn-sound, kField-headed, length-blockBytes, length-encodeTermRecord, ok-word, termIn-bytes, termIn-sound, word-ok}
-use Rattle.record.proofs.HeldLaws.{bytes-contents, good-buffer, good-header, good-k, good-store, header-fits, header-whole, held-contents, held-header, held-is, held-k, held-passes, held-size, held-used, held-whole}
-use Rattle.record.proofs.RowLaws.{first-behind, first-none, holds-some, is-some, isNone-some, none-first, not-intro, numbered, or-intro, orElse-some}
+use Rattle.record.proofs.HeldLaws.{bytes-contents, good-buffer, good-eight, good-header, good-k, good-store, header-fits, header-whole, held-contents, held-header, held-is, held-k, held-passes, held-size, held-used, held-whole}
+use Rattle.record.proofs.RowLaws.{first-behind, first-none, holds-some, is-some, isNone-some, none-first, none-split, not-intro, numbered, orElse-some}
 use Rattle.record.proofs.WordsLaws.{block-words, sound-words, words-small, words-sound}
 
 word-k : (h : Header) → HeaderFits h → h .k < 4294967296
 word-k h f = omega (arith, f .k-high)
 
+-- WHAT ROW 1 AND A RECORD'S ROWS LET THROUGH, n the used length that is lent and `more` the rows behind: the buffer is not too
+-- long, the used length is the record's own, and none of the rows behind applies
+pub record Passed (buf : List ℕ) (used n : ℕ) (more : List Row) : Type 0 where
+  pub low : length buf ≤ 16384
+  pub same : n ≡ used
+  pub behind : NoRow more
+
 -- A PROGRAM IN A BUFFER
 
 module _ {h : Header} {P : Block} {buf : List ℕ} {used : ℕ} (p : ProgramIn h P buf used) where
   pub program-words : BlockWords P
-  program-words = block-words (okOf h) (ok-word h (p .header)) (h .k) P (word-k h (p .header)) (p .variables) (p .literals)
+  program-words = block-words (okOf h) (ok-word h (p .header)) (h .k) P (word-k h (p .header)) (p .isProgram .variables) (p .isProgram .literals)
 
   program-headed : take used buf ≡ headed program h (blockBytes P)
   unfolding encodeProgram
@@ -61,7 +68,7 @@ module _ {h : Header} {P : Block} {buf : List ℕ} {used : ℕ} (p : ProgramIn h
   program-as-read x e = subst (λ (y : Header). ProgramIn y P buf used) (sym (e ∙ held-is program h (p .header) (blockBytes P) buf used (p .within) program-headed)) p
 
   -- the used length that row 2 lets through is the record's own
-  pub program-used : (n : ℕ) → length buf ≤ 16384 → badHeader program buf n ≡ false → n ≡ used
+  program-used : (n : ℕ) → length buf ≤ 16384 → badHeader program buf n ≡ false → n ≡ used
   program-used n l e = held-used program h (p .header) (blockBytes P) buf used (p .within) program-headed n l (good-header program buf n e)
 
   module _ (l : length buf ≤ 16384) where
@@ -77,15 +84,26 @@ module _ {h : Header} {P : Block} {buf : List ℕ} {used : ℕ} (p : ProgramIn h
     pub program-passes : (more : List Row) → NoRow more → NoRow (row 1 (badBuffer buf used) ∷ programRows buf used more)
     unfolding badBlock blockOutside
     program-passes =
-        let v : blockInRange (kOf buf used) P ≡ true = rw program-k (within-blockInRange (h .k) P (p .variables)) in
+        let v : blockInRange (kOf buf used) P ≡ true = rw program-k (within-blockInRange (h .k) P (p .isProgram .variables)) in
         held-passes program h (p .header) (blockBytes P) buf used (p .within) program-headed l (isNone-some (blockOf buf used) P program-block)
         (holds-some (λ t. not (blockInRange (kOf buf used) t)) (blockOf buf used) P program-block ∙ not-intro v)
 
-    -- so the first row that applies is a later one; and with an output buffer that is not too long
-    pub program-first : (out : Bool) → out ≡ false → (more : List Row) → firstRow (row 1 (badBuffer buf used || out) ∷ programRows buf used more) ≡ firstRow more
-    program-first out e more =
-        let r = program-passes [] tt in
-        first-behind (row 1 (badBuffer buf used || out) ∷ programRows buf used []) more (or-intro (r .0) e, r .1)
+    -- so the first row that applies is a later one. `one` is row 1 of the call, which may look at an output buffer as well
+    pub program-first : (one : Bool) → one ≡ badBuffer buf used → (more : List Row) → firstRow (row 1 one ∷ programRows buf used more) ≡ firstRow more
+    program-first one e more = let r = program-passes [] tt in first-behind (row 1 one ∷ programRows buf used []) more (e ∙ r .0, r .1)
+
+  -- and where no row applies, with whatever used length, it is the record's own, and no later row applies
+  pub program-passed : (n : ℕ) (one : Bool) → (one ≡ false → badBuffer buf n ≡ false) → (more : List Row) → NoRow (row 1 one ∷ programRows buf n more) → Passed buf used n more
+  program-passed n one f more r =
+      let low = good-buffer buf n (f (r .0)) .low in
+      record { low = low; same = program-used n low (r .1 .0); behind = none-split (programRows buf n []) more (r .1) .1 }
+
+-- what rows 1 to 5 let through says its length and its k
+pub passed-length : (buf : List ℕ) (used : ℕ) → NoRow (checkProgramRows buf used) → 8 ≤ used
+passed-length buf used r = good-eight (good-header program buf used (r .1 .0))
+
+pub passed-k : (buf : List ℕ) (used : ℕ) → NoRow (checkProgramRows buf used) → kOf buf used ≤ 16
+passed-k buf used r = good-k buf used (r .1 .1 .0) .1
 
 -- what passes rows 1 to 5 is a program's record
 pub passes-program : (buf : List ℕ) (used : ℕ) → Bytes buf → NoRow (checkProgramRows buf used) → (P : Block) × ProgramIn (headerOf buf used) P buf used
@@ -102,8 +120,10 @@ passes-program buf used hb r =
         within = b .within;
         header = header-fits program buf used hb b g (r .1 .1 .0);
         bytes = header-whole program buf used hb b g ∙ ap (headed program (headerOf buf used)) (s .0);
-        variables = blockInRange-within (kOf buf used) (o .0) (not-false (blockInRange (kOf buf used) (o .0)) v);
-        literals = words-small (okOf (headerOf buf used)) (word-ok (headerOf buf used)) (o .0) (s .1);
+        isProgram = record {
+          variables = blockInRange-within (kOf buf used) (o .0) (not-false (blockInRange (kOf buf used) (o .0)) v);
+          literals = words-small (okOf (headerOf buf used)) (word-ok (headerOf buf used)) (o .0) (s .1);
+        };
       },
     )
 
@@ -132,7 +152,7 @@ module _ {S : Vars} {h : Header} {t : Term} {buf : List ℕ} {used : ℕ} (p : T
   pub term-as-read : (x : Header) → x ≡ headerIn buf → TermIn S x t buf used
   term-as-read x e = subst (λ (y : Header). TermIn S y t buf used) (sym (e ∙ held-is term h (p .header) (encodeTermRecord t) buf used (p .within) term-headed)) p
 
-  pub term-used : (n : ℕ) → length buf ≤ 16384 → badHeader term buf n ≡ false → n ≡ used
+  term-used : (n : ℕ) → length buf ≤ 16384 → badHeader term buf n ≡ false → n ≡ used
   term-used n l e = held-used term h (p .header) (encodeTermRecord t) buf used (p .within) term-headed n l (good-header term buf n e)
 
   module _ (l : length buf ≤ 16384) where
@@ -151,10 +171,8 @@ module _ {S : Vars} {h : Header} {t : Term} {buf : List ℕ} {used : ℕ} (p : T
         held-passes term h (p .header) (encodeTermRecord t) buf used (p .within) term-headed l (isNone-some (termOf buf used) t term-some)
         (holds-some (λ u. not (termInRange (kOf buf used) u)) (termOf buf used) t term-some ∙ not-intro v)
 
-    pub term-first : (out : Bool) → out ≡ false → (more : List Row) → firstRow (row 1 (badBuffer buf used || out) ∷ termRows buf used more) ≡ firstRow more
-    term-first out e more =
-        let r = term-passes [] tt in
-        first-behind (row 1 (badBuffer buf used || out) ∷ termRows buf used []) more (or-intro (r .0) e, r .1)
+    pub term-first : (one : Bool) → one ≡ badBuffer buf used → (more : List Row) → firstRow (row 1 one ∷ termRows buf used more) ≡ firstRow more
+    term-first one e more = let r = term-passes [] tt in first-behind (row 1 one ∷ termRows buf used []) more (e ∙ r .0, r .1)
 
     -- rows 7 and 8 of the term that stands there
     pub term-open : openTerm buf used ≡ not (closed t)
@@ -164,6 +182,11 @@ module _ {S : Vars} {h : Header} {t : Term} {buf : List ℕ} {used : ℕ} (p : T
     pub term-unfinished : unfinished buf used ≡ not (finishedTerm t)
     unfolding unfinished
     term-unfinished = holds-some (λ u. not (finishedTerm u)) (termOf buf used) t term-some
+
+  pub term-passed : (n : ℕ) (one : Bool) → (one ≡ false → badBuffer buf n ≡ false) → (more : List Row) → NoRow (row 1 one ∷ termRows buf n more) → Passed buf used n more
+  term-passed n one f more r =
+      let low = good-buffer buf n (f (r .0)) .low in
+      record { low = low; same = term-used n low (r .1 .0); behind = none-split (termRows buf n []) more (r .1) .1 }
 
 -- a tuple is finished
 pub tuple-finished : (l : List Atom) → finishedTerm (tuple l) ≡ true
@@ -197,6 +220,12 @@ accepted-by rows j k q e =
     let z : firstRow rows ≡ 0 = sym (checked-number (firstRow rows) j) ∙ ap (λ (c : Checked). c .number) e in
     (first-none rows q z, ap (λ (c : Checked). c .k) (sym (checked-accepted (firstRow rows) j z) ∙ e))
 
+pub program-checked : {h : Header} {P : Block} {buf : List ℕ} {used : ℕ} → ProgramIn h P buf used → length buf ≤ 16384 → checkProgram buf used ≡ record { number = 0; k = h .k }
+unfolding checkProgram
+program-checked {h} {P} {buf} {used} p l =
+    checked-accepted (firstRow (checkProgramRows buf used)) (kOf buf used) (none-first (checkProgramRows buf used) (program-passes p l [] tt))
+    ∙ ap (λ (n : ℕ). record { number = 0; k = n }) (program-k p)
+
 pub check-program : (k : ℕ) (buf : List ℕ) (used : ℕ) → Bytes buf
     → (checkProgram buf used ≡ record { number = 0; k = k }) ↔ ((length buf ≤ 16384) × ((h : Header) × (P : Block) × (h .k ≡ k) × ProgramIn h P buf used))
 unfolding checkProgram
@@ -205,10 +234,7 @@ check-program k buf used hb = (
       let r = accepted-by (checkProgramRows buf used) (kOf buf used) k refl e in
       let p = passes-program buf used hb (r .0) in
       (good-buffer buf used (r .0 .0) .low, (headerOf buf used, p .0, r .1, p .1))),
-  (λ v.
-      let p = v .1 .3 in
-      checked-accepted (firstRow (checkProgramRows buf used)) (kOf buf used) (none-first (checkProgramRows buf used) (program-passes p (v .0) [] tt))
-      ∙ ap (λ (n : ℕ). record { number = 0; k = n }) (program-k p ∙ v .1 .2)),
+  (λ v. program-checked (v .1 .3) (v .0) ∙ ap (λ (n : ℕ). record { number = 0; k = n }) (v .1 .2)),
 )
 
 pub check-term : (k : ℕ) (buf : List ℕ) (used : ℕ) → Bytes buf
@@ -235,14 +261,12 @@ checked-fits h buf used e =
 
 -- A RECORD WITH ZEROS BEHIND IT, in a buffer that has room for it
 
-pub padded-program : (h : Header) (P : Block) (n : ℕ) → HeaderFits h → BlockWithin (h .k) P → SmallBlock (okOf h) P
-    → ProgramIn h P (padded n (encodeProgram h P)) (length (encodeProgram h P))
-padded-program h P n f v w = record {
+pub padded-program : (h : Header) (P : Block) (n : ℕ) → HeaderFits h → IsProgram h P → ProgramIn h P (padded n (encodeProgram h P)) (length (encodeProgram h P))
+padded-program h P n f p = record {
   within = fits-padded n (encodeProgram h P);
   header = f;
   bytes = take-padded n (encodeProgram h P);
-  variables = v;
-  literals = w;
+  isProgram = p;
 }
 
 pub padded-term : (S : Vars) (h : Header) (t : Term) (n : ℕ) → HeaderFits h → SoundTerm (okOf h) (h .k) S t
@@ -274,8 +298,10 @@ checked-holds h P buf used f e held words =
       within = b .within;
       header = f;
       bytes = held;
-      variables = subst (λ (x : Header). BlockWithin (x .k) P) is-h (blockInRange-within (kOf buf used) P (not-false (blockInRange (kOf buf used) P) v));
-      literals = words-small (okOf h) (word-ok h) P words;
+      isProgram = record {
+        variables = subst (λ (x : Header). BlockWithin (x .k) P) is-h (blockInRange-within (kOf buf used) P (not-false (blockInRange (kOf buf used) P) v));
+        literals = words-small (okOf h) (word-ok h) P words;
+      };
     }
 
 -- the k of a term's record, and the size of a store that row 6 lets through

@@ -11,6 +11,7 @@ pub mod ExpressionReadLaws
 pub mod TermLaws
 pub mod HeaderLaws
 pub mod WordsLaws
+pub mod SizeLaws
 pub mod RowLaws
 pub mod AnswerLaws
 pub mod HeldLaws

@@ -9,9 +9,9 @@ use lib.Seq.{drop-drop, length-take-le, take-all}
 use native.Mathlib.Omega.{arith}
 use Rattle.buffer.specs.Slice as slice
 use Rattle.rules.specs.Scope.{blockInRange}
-use Rattle.rules.specs.Syntax.{Block, Bound, Expr, assign, empty, loop, nest}
+use Rattle.rules.specs.Syntax.{Block, Bound, Expr, append, assign, empty, loop, nest}
 use Rattle.rules.proofs.Tests.{true-false}
-use Rattle.record.specs.Command.{appendBlock, joined, oneAssign, oneLoop, oneNest}
+use Rattle.record.specs.Command.{joined, oneAssign, oneLoop, oneNest}
 use Rattle.record.specs.Front.{Front, isOnly, only, u16, u32}
 use Rattle.record.specs.Header.{blockIn}
 use Rattle.record.specs.Program.{CommandKind, boundFrom, boundKind, boundNumber, commandKind, decodeBlock, decodeBlockPart, decodeBlockStep, decodeCommand, exprFrom, exprKind, exprNumber, isAssign, isBlock, isLoop, notCommand, readBound, readExpr}
@@ -59,7 +59,7 @@ module _ (r : List ℕ) where
   joined-bind none f h e = refl
   joined-bind (some p) f h e = e p
 
-  joined-last : (f : Block → Block) → ((q : Block) → f q ≡ appendBlock (f empty) q) → bind (decodeBlock r) (λ q. some (f q)) ≡ joined (bind (decodeBlock []) (λ q. some (f q))) (decodeBlock r)
+  joined-last : (f : Block → Block) → ((q : Block) → f q ≡ append (f empty) q) → bind (decodeBlock r) (λ q. some (f q)) ≡ joined (bind (decodeBlock []) (λ q. some (f q))) (decodeBlock r)
   unfolding bind
   joined-last f h = rw decode-nil (go (decodeBlock r))
     where
@@ -69,7 +69,7 @@ module _ (r : List ℕ) where
 
   -- the first command and the rest of the commands
   joined-command : {k : ℕ} (c : CommandKind k) (b : List ℕ) → decodeCommand decodeBlock c b r ≡ joined (decodeCommand decodeBlock c b []) (decodeBlock r)
-  unfolding decodeCommand appendBlock
+  unfolding decodeCommand append
   joined-command isBlock b = joined-bind (decodeBlock b) _ _ (λ p. joined-last (nest p) (λ q. refl))
   joined-command isAssign b =
       joined-then (word b) _ _ (λ x b₁. joined-then (readExpr b₁) _ _ (λ e b₂. joined-end b₂ _ _ (joined-last (assign x e) (λ q. refl))))
@@ -195,8 +195,8 @@ module _ (c : List ℕ) where
 
 -- VARIABLE NUMBERS
 
-pub append-range : (k : ℕ) (p q : Block) → blockInRange k (appendBlock p q) ≡ (blockInRange k p && blockInRange k q)
-unfolding appendBlock blockInRange
+pub append-range : (k : ℕ) (p q : Block) → blockInRange k (append p q) ≡ (blockInRange k p && blockInRange k q)
+unfolding append blockInRange
 append-range k empty q = refl
 append-range k (assign x e r) q = rw (append-range k r q) (simp and-assoc)
 append-range k (loop x b body r) q = rw (append-range k r q) (simp and-assoc)

@@ -9,7 +9,6 @@ use lib.ListN.{drop, length, length-append, length-drop, take, take-append-drop}
 use lib.Seq.{drop-at, length-take-le, take-at}
 use native.Mathlib.Omega.{arith}
 use Rattle.buffer.specs.LittleEndian.{Bytes, le, val}
-use Rattle.rules.specs.Translation.{all}
 use Rattle.buffer.proofs.LittleEndianLaws.{bytes-append, bytes-le, bytes-left, bytes-right, le-val, length-le, val-le, val-lt}
 use Rattle.rules.proofs.Tests.{and-both}
 use Rattle.record.specs.Record.{bad, cut, encodeRecord, end, part, split}

@@ -41,6 +41,11 @@ pub first-behind : (rs more : List Row) → NoRow rs → firstRow (rs ++ more) �
 first-behind [] more h = refl
 first-behind (r ∷ rs) more h = first-skips (r .number) (r .applies) (rs ++ more) (h .0) ∙ first-behind rs more (h .1)
 
+-- where no row of both applies, none of either does
+pub none-split : (rs more : List Row) → NoRow (rs ++ more) → NoRow rs × NoRow more
+none-split [] more h = (tt, h)
+none-split (r ∷ rs) more h = let q = none-split rs more (h .1) in ((h .0, q .0), q .1)
+
 pub none-first : (rs : List Row) → NoRow rs → firstRow rs ≡ 0
 unfolding firstRow
 none-first [] h = refl

@@ -1,20 +1,18 @@
 -- Numbers of 4 bytes: what the record layer asks of numbers, and what the rules ask of values and variables.
 use Prim.Native.Nat.{_<_, ℕ}
-use mathlib.Core.Path.{refl, _≡_}
+use mathlib.Core.Path.{_≡_}
 use mathlib.Core.Bool.{Bool, _&&_, true}
 use mathlib.Core.List.{List, [], _∷_}
-use lib.ListN.{length-map}
 use native.Mathlib.Omega.{arith}
 use Rattle.rules.specs.FreeVariables.{Vars, adding, allVars, atomOfSimple, closedAtom, closedAtoms, closedIn, closedSimple}
 use Rattle.rules.specs.Scope.{BlockWithin, BoundWithin, ExprWithin, atomInRange, atomsInRange, inRange, simpleInRange, termInRange}
 use Rattle.rules.specs.Sound.{SmallBlock, SmallBound, SmallExpr, SoundAtom, SoundAtoms, SoundSimple, SoundTerm}
-use Rattle.rules.specs.Substitution.{Substitution, except, substitute, substituteAtom, substituteSimple}
 use Rattle.rules.specs.Syntax.{Atom, Block, Bound, Expr, Simple, Term, assign, dec, empty, inc, letAll, letOne, lit, loop, nest, num, plain, predOf, rec, ref, succOf, tuple, upto, uptoVar, var}
 use Rattle.rules.proofs.FreeVariablesLaws.{all-closed}
 use Rattle.rules.proofs.ScopeLaws.{inRange-within}
 use Rattle.rules.proofs.Tests.{and-both, true-T}
 use Rattle.record.specs.Program.{BlockWords, boundNumber, exprNumber}
-use Rattle.record.specs.Term.{AtomWords, AtomsWords, TermWords, atomNumber, simpleSize, termSize}
+use Rattle.record.specs.Term.{AtomWords, AtomsWords, TermWords, atomNumber}
 
 -- A TEST OF VALUES that lets only numbers of 4 bytes pass
 module _ (ok : ℕ → Bool) (word : (n : ℕ) → ok n ≡ true → n < 4294967296) where
@@ -118,18 +116,3 @@ module _ (ok : ℕ → Bool) (passes : (n : ℕ) → n < 4294967296 → ok n ≡
       let s = and-both (atomsInRange k l) (termInRange k t) (q .1) in
       let d = and-both (closedAtom S a) (closedAtoms S l) c in
       (inRange-within k x (p .0), words-soundAtom k S a (w .1) (q .0) (d .0), w .2, words-soundAtoms k S l (w .3) (s .0) (d .1), words-sound k allVars t (w .4) (s .1) (all-closed t))
-
--- SUBSTITUTION CHANGES NO LENGTH
-
-simpleSize-substitute : (f : Substitution) (s : Simple) → simpleSize (substituteSimple f s) ≡ simpleSize s
-unfolding simpleSize substituteSimple
-simpleSize-substitute f (plain a) = refl
-simpleSize-substitute f (succOf a) = refl
-simpleSize-substitute f (predOf a) = refl
-
-pub termSize-substitute : (f : Substitution) (t : Term) → termSize (substitute f t) ≡ termSize t
-unfolding termSize substitute
-termSize-substitute f (tuple l) = rw (length-map l (substituteAtom f))
-termSize-substitute f (letOne x s t) = rw (simpleSize-substitute f s, termSize-substitute (except x f) t)
-termSize-substitute f (letAll t u) = rw (termSize-substitute f t)
-termSize-substitute f (rec x a l t) = rw (length-map l (substituteAtom f))

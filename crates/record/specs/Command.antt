@@ -1,20 +1,13 @@
 -- The first command of a block's contents, and the rest of them.
 use Prim.Native.Nat.{ℕ}
 use mathlib.Core.Option.{Option, none, some}
-use Rattle.rules.specs.Syntax.{Block, Bound, Expr, assign, empty, loop, nest}
+use Rattle.rules.specs.Syntax.{Block, Bound, Expr, append, assign, empty, loop, nest}
 
--- The commands of a block, and then those of another.
-unfoldable pub appendBlock : Block → Block → Block
-appendBlock empty q = q
-appendBlock (assign x e r) q = assign x e (appendBlock r q)
-appendBlock (loop x b body r) q = loop x b body (appendBlock r q)
-appendBlock (nest b r) q = nest b (appendBlock r q)
-
--- The same of what two lists of bytes hold, if both hold a block.
+-- The commands that two lists of bytes hold, one after the other, if both hold a block.
 abbrev pub joined : Option Block → Option Block → Option Block
 joined none q = none
 joined (some p) none = none
-joined (some p) (some q) = some (appendBlock p q)
+joined (some p) (some q) = some (append p q)
 
 -- The block of one command: a block, an assignment, a loop, from what its parts hold.
 abbrev pub oneNest : Option Block → Option Block

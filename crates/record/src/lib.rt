@@ -1,14 +1,15 @@
-// The record layer's code: what the header of a program's or a term's record says, what class a record is of, and what record
-// stands first in a slice. No crate above knows how long a header is, its kinds or the largest value.
+// The record layer's code: what the header of a program's or a term's record says, and what class a record is of. No crate
+// above knows how long a header is, its kinds or the largest value.
 ghost use mathlib.Core.Path.{_≡_};
 ghost use Prim.Native.Nat.{_≤_};
 ghost use lib.ListN.{length};
 ghost use Rattle.buffer.specs.Slice.{put};
 ghost use Rattle.record.specs.Class.{classOf};
-ghost use Rattle.record.specs.Front.{firstLength, isOnly};
 ghost use Rattle.record.specs.Header.{contentsAt, fieldsOf, headerIn, kindOf, largestOf};
 
 pub mod kind;
+pub mod limit;
+pub mod refusal;
 
 // The two sorts of record that have a header.
 pub enum Sort {
@@ -94,34 +95,4 @@ pub fn class_of(kind: usize) -> Class
         32..=40 => Class::Term,
         _ => Class::Malformed,
     }
-}
-
-// How long the record is that stands first in s; 0 where none does. The bound spares callers a law.
-pub fn first_length(s: &[u8]) -> usize
-    ensures { λ r. ⌜ (r ≡ firstLength (now (s .entry))) × (r ≤ length (now (s .entry))) ⌝ }
-{
-    if s.len() < 4 {
-        return 0;
-    }
-    let n = buffer::get_u16(s, 0);
-    if n < 4 {
-        return 0;
-    }
-    if s.len() < n {
-        return 0;
-    }
-    n
-}
-
-// Whether s is one record of this kind, and nothing after it.
-pub fn is_only(s: &[u8], kind: usize) -> bool
-    ensures { λ r. ⌜ r ≡ isOnly kind (now (s .entry)) ⌝ }
-{
-    if s.len() < 4 {
-        return false;
-    }
-    if buffer::get_u16(s, 0) != s.len() {
-        return false;
-    }
-    buffer::get_u16(s, 2) == kind
 }

@@ -1,2 +1,3 @@
 pub mod LookLaws
 pub mod PlanMeaningLaws
+pub mod RuleLaws

@@ -1,6 +1,6 @@
 -- The plan by what code reads of the redex.
-use Prim.Native.Nat.{_*_, _+_, _≤_, suc, zero, ℕ}
-use mathlib.Core.Path.{ap, ap₂, refl, subst, sym, _∙_, _≡_}
+use Prim.Native.Nat.{_*_, _+_, _≤_, suc, ℕ}
+use mathlib.Core.Path.{ap, ap₂, subst, sym, _∙_, _≡_}
 use mathlib.Core.Bool.{Bool, true}
 use mathlib.Core.List.{List}
 use lib.ListN.{length}
@@ -23,11 +23,12 @@ use Rattle.rules.proofs.Tests.{and-both, true-false}
 use Rattle.place.proofs.NestingLaws.{plug-keeps}
 use Rattle.place.proofs.TermBytesLaws.{atomKind-range, kind-num, kind-ref, simple-least}
 use Rattle.place.proofs.TermPathLaws.{plug-redex, redex-at}
-use Rattle.place.proofs.TermViewLaws.{as-letAll, as-letAtom, as-letOne, as-letPred, as-letSucc, as-rec, as-tuple, simple-kind, term-index, term-same}
+use Rattle.place.proofs.TermViewLaws.{as-letAll, as-letAtom, as-letOne, as-letPred, as-letSucc, as-rec, as-tuple, simple-kind, term-index, term-kind, term-same}
 use Rattle.place.proofs.WholeLaws.{term-at}
-use Rattle.plan.specs.Plan.{plan, planRaise}
-use Rattle.plan.specs.declared.Rule.the-variants.{Bind, Evaluate, Finished, Leave, Stop, Unroll}
-use Rattle.redex.specs.Plan.{planLetOne, planOf, planRec, planRedex}
+use Rattle.plan.specs.Plan.{plan, planRaise, planTurn}
+use Rattle.plan.specs.declared.Plan.{Plan}
+use Rattle.plan.specs.declared.Rule.the-variants.{Bind, Evaluate, Finished, Leave}
+use Rattle.redex.specs.Plan.{planLetOne, planOf, planRedex}
 
 -- NUMERALS: the atoms of a closed term's redex
 
@@ -72,12 +73,12 @@ module _ {l : List ℕ} {at k : ℕ} {t : Term} (h : TermAt l at k t) where
           ap₂ (λ (m d : ℕ). plan levels at Bind m d 0 16) (ex ∙ v .variable-read) (en ∙ v .number-read ∙ closed-number (v .atom) (closed-bound (v .variable) (plain (v .atom)) (v .last) w))
           ∙ sym (ap (planRedex ok levels at) (v .is))
 
-      pub let-pred : val (part l (at + 10) 2) ≡ 35 → (n : ℕ) → n ≡ val (part l (at + 16) 4) → plan levels at Evaluate x (minusOne n) 0 4 ≡ planRedex ok levels at t
+      pub let-pred : val (part l (at + 10) 2) ≡ 35 → (n d : ℕ) → n ≡ val (part l (at + 16) 4) → d ≡ minusOne n → plan levels at Evaluate x d 0 4 ≡ planRedex ok levels at t
       unfolding planRedex planLetOne
-      let-pred e n en =
+      let-pred e n d en ed =
           let v = as-letPred h one e in
           let w = ap closed (sym (v .is)) ∙ c in
-          ap₂ (λ (m d : ℕ). plan levels at Evaluate m (minusOne d) 0 4) (ex ∙ v .variable-read) (en ∙ v .number-read ∙ closed-number (v .atom) (closed-bound (v .variable) (predOf (v .atom)) (v .last) w))
+          ap₂ (λ (m y : ℕ). plan levels at Evaluate m y 0 4) (ex ∙ v .variable-read) (ed ∙ ap minusOne (en ∙ v .number-read ∙ closed-number (v .atom) (closed-bound (v .variable) (predOf (v .atom)) (v .last) w)))
           ∙ sym (ap (planRedex ok levels at) (v .is))
 
       -- a variable would be free
@@ -100,35 +101,20 @@ module _ {l : List ℕ} {at k : ℕ} {t : Term} (h : TermAt l at k t) where
           ∙ sym (ap (planRedex ok levels at) (v .is))
 
   module _ (r : val (part l (at + 2) 2) ≡ 39) where
-    -- all that is read of a rec; its body's length is the record's but for 24 bytes and the start tuple's atoms
+    -- all that is read of a rec; its body's record is the rec's but for 20 bytes and the start tuple's atoms
     pub rec-room : (at + 20 ≤ length l) × (24 + 8 * k ≤ val (part l at 2))
     rec-room = let v = as-rec h r in (omega (arith, v .room, v .size), omega (arith, v .stored))
 
-    module _ (c : closed t ≡ true) (ok : ℕ → Bool) (levels x b : ℕ) (ex : x ≡ val (part l (at + 4) 4)) (eb : b + (24 + 8 * k) ≡ val (part l at 2)) where
-      rec-plan : planRec levels at x b (val (part l (at + 12) 4)) ≡ planRedex ok levels at t
-      unfolding planRedex
-      rec-plan =
-          let v = as-rec h r in
-          let w = ap closed (sym (v .is)) ∙ c in
-          let s : b ≡ termSize (v .body) = omega (arith, v .stored) in
-          ap₂ (λ (m d : ℕ). planRec levels at m b d) (ex ∙ v .variable-read) (v .number-read ∙ closed-number (v .count) (closed-count (v .variable) (v .count) (v .start) (v .body) w))
-          ∙ ap (λ (m : ℕ). planRec levels at (v .variable) m (valueOf (v .count))) s
-          ∙ sym (ap (planRedex ok levels at) (v .is))
-
-      pub rec-stop : (n : ℕ) → n ≡ val (part l (at + 12) 4) → n ≡ 0 → plan levels at Stop x 0 0 (20 + b) ≡ planRedex ok levels at t
-      unfolding planRec
-      rec-stop n en z = ap (planRec levels at x b) (sym z ∙ en) ∙ rec-plan
-
-      pub rec-unroll : (n : ℕ) → n ≡ val (part l (at + 12) 4) → (n ≡ 0 → ⊥) → plan levels at Unroll x n (24 + b) 0 ≡ planRedex ok levels at t
-      rec-unroll n en z = go n z ∙ ap (planRec levels at x b) en ∙ rec-plan
-        where
-          go : (m : ℕ) → (m ≡ 0 → ⊥) → plan levels at Unroll x m (24 + b) 0 ≡ planRec levels at x b m
-          go zero f = absurd (f refl)
-          go (suc q) f = unfold planRec in refl
-
-  pub tuple-plan : (ok : ℕ → Bool) (levels : ℕ) → val (part l (at + 2) 2) ≡ 36 → plan levels at Finished 0 0 0 0 ≡ planRedex ok levels at t
-  unfolding planRedex
-  tuple-plan ok levels e = let v = as-tuple h e in sym (ap (planRedex ok levels at) (v .is))
+    pub rec-plan : closed t ≡ true → (ok : ℕ → Bool) (levels x b n : ℕ) → x ≡ val (part l (at + 4) 4) → b + (20 + 8 * k) ≡ val (part l at 2) → n ≡ val (part l (at + 12) 4)
+        → planTurn levels at x b n ≡ planRedex ok levels at t
+    unfolding planRedex
+    rec-plan c ok levels x b n ex eb en =
+        let v = as-rec h r in
+        let w = ap closed (sym (v .is)) ∙ c in
+        let s : b ≡ 4 + termSize (v .body) = omega (arith, v .stored) in
+        ap₂ (λ (m d : ℕ). planTurn levels at m b d) (ex ∙ v .variable-read) (en ∙ v .number-read ∙ closed-number (v .count) (closed-count (v .variable) (v .count) (v .start) (v .body) w))
+        ∙ ap (λ (m : ℕ). planTurn levels at (v .variable) m (valueOf (v .count))) s
+        ∙ sym (ap (planRedex ok levels at) (v .is))
 
 -- THE WHOLE TERM
 
@@ -152,24 +138,34 @@ module _ {hd : Header} {t : Term} {l : List ℕ} {used k contents : ℕ} (h : Te
   pub whole : TermAt l contents k t
   whole = subst (λ (n : ℕ). TermAt l contents n t) is-k (term-index (term-at h low) st)
 
-  pub redex-closed : closed (redex t) ≡ true
-  redex-closed = sound-closed (okOf hd) (hd .k) (redex t) (redex-sound (okOf hd) (hd .k) t (h .sound))
+  -- `counts` is what the walk through the heads gives
+  module _ {levels : ℕ} (counts : (n : ℕ) (u : Term) → TermAt l contents n u → levels ≡ length (termPath u)) where
+    abbrev place : ℕ
+    place = contents + 4 * levels
 
-  module _ (levels : ℕ) (e : levels ≡ length (termPath t)) where
     -- the redex stands behind the heads of the open let-alls
-    pub found : TermAt l (contents + 4 * levels) k (redex t)
-    found = term-index (redex-at whole) (ap (λ (n : ℕ). contents + 4 * n) (sym e))
+    pub found : TermAt l place k (redex t)
+    found = term-index (redex-at whole) (ap (λ (n : ℕ). contents + 4 * n) (sym (counts k t whole)))
 
     module _ (ok : ℕ → Bool) where
-      pub plan-found : planRedex ok levels (contents + 4 * levels) (redex t) ≡ planOf contents ok t
+      plan-found : planRedex ok levels place (redex t) ≡ planOf contents ok t
       unfolding planOf
-      plan-found = ap (λ (n : ℕ). planRedex ok n (contents + 4 * n) (redex t)) e
+      plan-found = ap (λ (n : ℕ). planRedex ok n (contents + 4 * n) (redex t)) (counts k t whole)
 
-      pub plan-letAll : val (part l (contents + 4 * levels + 2) 2) ≡ 38 → plan levels (contents + 4 * levels) Leave 0 0 0 (8 + 8 * k) ≡ planOf contents ok t
+      -- from what is known of any closed term that stands there
+      pub plan-closed : {q : Plan} → ((u : Term) → TermAt l place k u → closed u ≡ true → q ≡ planRedex ok levels place u) → q ≡ planOf contents ok t
+      plan-closed says = says (redex t) found (sound-closed (okOf hd) (hd .k) (redex t) (redex-sound (okOf hd) (hd .k) t (h .sound))) ∙ plan-found
+
+      pub plan-tuple : val (part l (place + 2) 2) ≡ 36 → plan levels place Finished 0 0 0 0 ≡ planOf contents ok t
       unfolding planRedex
-      plan-letAll q =
-          let v = as-letAll found q in
+      plan-tuple e = sym (ap (planRedex ok levels place) (as-tuple found e .is)) ∙ plan-found
+
+      pub plan-letAll : (val (part l (place + 2) 2) ≡ 37 → ⊥) → (val (part l (place + 2) 2) ≡ 39 → ⊥) → (val (part l (place + 2) 2) ≡ 36 → ⊥)
+          → plan levels place Leave 0 0 0 (8 + 8 * k) ≡ planOf contents ok t
+      unfolding planRedex
+      plan-letAll a b c =
+          let v = as-letAll found (omega (arith, term-kind found)) in
           let y = redex-tuple t (v .first) (v .last) (v .is) in
           let is : redex t ≡ letAll (tuple (y .0)) (v .last) = v .is ∙ ap (λ (s : Term). letAll s (v .last)) (y .1) in
           let n : length (y .0) ≡ k = term-same found is .words .0 .0 in
-          ap (λ (m : ℕ). plan levels (contents + 4 * levels) Leave 0 0 0 (8 + 8 * m)) (sym n) ∙ sym (ap (planRedex ok levels (contents + 4 * levels)) is) ∙ plan-found
+          ap (λ (m : ℕ). plan levels place Leave 0 0 0 (8 + 8 * m)) (sym n) ∙ sym (ap (planRedex ok levels place) is) ∙ plan-found

@@ -17,11 +17,12 @@ use Rattle.rules.specs.Syntax.{Atom, Simple, Term, letAll, letOne, next, num, p
 use Rattle.place.proofs.TermBytesLaws.{size-pred, size-succ, termSize-letAll, termSize-letOne, termSize-plain, termSize-rec, termSize-tuple}
 use Rattle.place.proofs.TermPathLaws.{plug-kind, plug-redex, redex-is, redex-kind, reduce-letAll-tuple, reduce-redex, termSize-plug}
 use Rattle.record.proofs.HeaderLaws.{length-encodeTerm}
-use Rattle.record.proofs.WordsLaws.{termSize-substitute}
+use Rattle.record.proofs.SizeLaws.{termSize-substitute}
+use Rattle.plan.specs.Plan.{planTurn}
 use Rattle.plan.specs.declared.Plan.{Plan}
 use Rattle.plan.specs.declared.Rule.{Rule}
 use Rattle.plan.proofs.TellsLaws.{Tells, tells-around, tells-raise}
-use Rattle.redex.specs.Plan.{planLetOne, planOf, planRec, planRedex}
+use Rattle.redex.specs.Plan.{planLetOne, planOf, planRedex}
 
 -- of a term that the rules act on
 abbrev TellsRedex : (ℕ → Bool) → Term → Plan → Rule → Type 0
@@ -39,8 +40,8 @@ module _ (ok : ℕ → Bool) (levels p : ℕ) where
       (letOne x (plain (num (minusOne (valueOf a)))) t, refl, omega (arith, termSize-letOne x (predOf a) t, size-pred a, termSize-plain x (num (minusOne (valueOf a))) t))
 
   tells-rec : (x : ℕ) (a : Atom) (l : List Atom) (t : Term) (v : ℕ) → valueOf a ≡ v
-      → TellsRedex ok (rec x a l t) (planRec levels p x (termSize t) v) ((planRec levels p x (termSize t) v) .rule)
-  unfolding planRec reduce unrollRec
+      → TellsRedex ok (rec x a l t) (planTurn levels p x (4 + termSize t) v) ((planTurn levels p x (4 + termSize t) v) .rule)
+  unfolding planTurn reduce unrollRec
   tells-rec x a l t zero e =
       (tuple l, ap (λ m. next (unrollRec x m l t)) e, omega (arith, termSize-rec x a l t, termSize-tuple l))
   tells-rec x a l t (suc q) e = (

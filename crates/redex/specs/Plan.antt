@@ -1,5 +1,5 @@
 -- The plan of the next reduction: what `look` answers, from the tree.
-use Prim.Native.Nat.{ℕ, zero, suc, _+_, _*_}
+use Prim.Native.Nat.{ℕ, suc, _+_, _*_}
 use mathlib.Core.Bool.{Bool}
 use lib.ListN.{length}
 use Rattle.rules.specs.Reduction.{valueOf}
@@ -7,9 +7,9 @@ use Rattle.rules.specs.Store.{minusOne}
 use Rattle.rules.specs.Syntax.{Simple, Term, letAll, letOne, plain, predOf, rec, succOf, tuple}
 use Rattle.record.specs.Term.{termSize}
 use Rattle.place.specs.TermPath.{redex, termPath}
-use Rattle.plan.specs.Plan.{plan, planRaise}
+use Rattle.plan.specs.Plan.{plan, planRaise, planTurn}
 use Rattle.plan.specs.declared.Plan.{Plan}
-use Rattle.plan.specs.declared.Rule.the-variants.{Bind, Evaluate, Finished, Leave, Stop, Unroll}
+use Rattle.plan.specs.declared.Rule.the-variants.{Bind, Evaluate, Finished, Leave}
 
 -- A let-one of a numeral has 16 bytes before its last term; succ and pred have 4 bytes more than the numeral.
 unfoldable pub planLetOne : (ℕ → Bool) → ℕ → ℕ → ℕ → Simple → Plan
@@ -17,13 +17,8 @@ planLetOne ok levels at x (plain a) = plan levels at Bind x (valueOf a) 0 16
 planLetOne ok levels at x (succOf a) = planRaise levels at x (suc (valueOf a)) 4 (ok (suc (valueOf a)))
 planLetOne ok levels at x (predOf a) = plan levels at Evaluate x (minusOne (valueOf a)) 0 4
 
--- A rec whose body has n bytes of contents, by the value of its count: of 0 all goes but the start tuple, 16 bytes before it
--- and the body behind it; of q + 1 a let-all's head, a let-one's 16 bytes and the body once more come.
-unfoldable pub planRec : ℕ → ℕ → ℕ → ℕ → ℕ → Plan
-planRec levels at x n zero = plan levels at Stop x 0 0 (20 + n)
-planRec levels at x n (suc q) = plan levels at Unroll x (suc q) (24 + n) 0
-
--- Of the term that the rules act on; a let-all of a tuple has its head and the tuple before its last term.
+-- Of the term that the rules act on; a let-all of a tuple has its head and the tuple before its last term, and a rec's body is a record
+-- with a head of 4 bytes.
 unfoldable pub planRedex : (ℕ → Bool) → ℕ → ℕ → Term → Plan
 planRedex ok levels at (tuple l) = plan levels at Finished 0 0 0 0
 planRedex ok levels at (letOne x s t) = planLetOne ok levels at x s
@@ -31,7 +26,7 @@ planRedex ok levels at (letAll (tuple l) u) = plan levels at Leave 0 0 0 (8 + 8 
 planRedex ok levels at (letAll (letOne x s t) u) = plan levels at Finished 0 0 0 0
 planRedex ok levels at (letAll (letAll s t) u) = plan levels at Finished 0 0 0 0
 planRedex ok levels at (letAll (rec x a l t) u) = plan levels at Finished 0 0 0 0
-planRedex ok levels at (rec x a l t) = planRec levels at x (termSize t) (valueOf a)
+planRedex ok levels at (rec x a l t) = planTurn levels at x (4 + termSize t) (valueOf a)
 
 -- The plan of the next reduction of the term t, which stands where its record's contents start; `ok` is the test for a value that
 -- is not too large.

@@ -16,8 +16,6 @@ ghost use Rattle.rules.specs.Store.{upTo};
 ghost use Rattle.rules.specs.Syntax.{Term};
 ghost use Rattle.redex.specs.Plan.{planOf, planRedex};
 use plan::Plan;
-use plan::Rule;
-use plan::raise;
 use record::kind::LET_ALL;
 use record::kind::LET_ONE;
 use record::kind::NUMERAL;
@@ -59,61 +57,26 @@ fn look_let_one(buf: &[u8], at: usize, levels: usize, largest: u32) -> Plan
     let variable = buffer::get_u32(buf, at + 4);
     let kind = buffer::get_u16(buf, at + 10);
     if kind == NUMERAL {
-        let value = buffer::get_u32(buf, at + 12);
-        return Plan {
-            rule: Rule::Bind,
-            levels: levels,
-            at: at,
-            variable: variable,
-            value: value,
-            up: 0,
-            down: 16,
-        };
+        return plan::bind(at, levels, variable, buffer::get_u32(buf, at + 12));
     }
     let value = buffer::get_u32(buf, at + 16);
     if kind == PRED {
         let less = run::value::minus_one(value);
-        return Plan {
-            rule: Rule::Evaluate,
-            levels: levels,
-            at: at,
-            variable: variable,
-            value: less,
-            up: 0,
-            down: 4,
-        };
+        return plan::evaluate(at, levels, variable, less, 4);
     }
-    raise(at, levels, variable, value, 4, largest)
+    plan::raise(at, levels, variable, value, 4, largest)
 }
 
-// The plan of a closed rec at index at, whatever values pass: no value grows. Its body has what is left of its record behind 24 bytes and the start tuple's atoms.
+// The plan of a closed rec at index at, whatever values pass: no value grows. The record of its body is what is left of the rec's
+// behind 20 bytes and the start tuple's atoms.
 fn look_rec(buf: &[u8], at: usize, levels: usize, k: u32) -> Plan
     requires { ⌜ ((t : Term) × TermAt (now buf) at k t) × (val (part (now buf) (at + 2) 2) ≡ 39) ⌝ }
     ensures { λ p. ⌜ ((t : Term) → TermAt (now (buf .entry)) at k t → closed t ≡ true → (ok : ℕ → Bool) → p ≡ planRedex ok levels at t) ⌝ }
 {
     let variable = buffer::get_u32(buf, at + 4);
     let value = buffer::get_u32(buf, at + 12);
-    let body = buffer::get_u16(buf, at) - (24 + 8 * k as usize);
-    if value == 0 {
-        return Plan {
-            rule: Rule::Stop,
-            levels: levels,
-            at: at,
-            variable: variable,
-            value: 0,
-            up: 0,
-            down: 20 + body,
-        };
-    }
-    Plan {
-        rule: Rule::Unroll,
-        levels: levels,
-        at: at,
-        variable: variable,
-        value: value,
-        up: 24 + body,
-        down: 0,
-    }
+    let body = buffer::get_u16(buf, at) - (20 + 8 * k as usize);
+    plan::turn(at, levels, variable, value, body)
 }
 
 // The plan of the next reduction of a closed term of k variables that stands where the contents start, at `contents`, with values up
@@ -132,23 +95,7 @@ pub fn look(buf: &[u8], k: u32, contents: usize, largest: u32) -> Plan
         return look_rec(buf, at, levels, k);
     }
     if kind == TUPLE {
-        return Plan {
-            rule: Rule::Finished,
-            levels: levels,
-            at: at,
-            variable: 0,
-            value: 0,
-            up: 0,
-            down: 0,
-        };
+        return plan::finished(at, levels);
     }
-    Plan {
-        rule: Rule::Leave,
-        levels: levels,
-        at: at,
-        variable: 0,
-        value: 0,
-        up: 0,
-        down: 8 + 8 * k as usize,
-    }
+    plan::leave(at, levels, 8 + 8 * k as usize)
 }

@@ -8,8 +8,7 @@ use native.Mathlib.Omega.{arith}
 use Rattle.record.specs.declared.Header.{Header}
 use Rattle.record.specs.Header.{encodeTerm, okOf}
 use Rattle.record.specs.Holding.{TermIn}
-use Rattle.record.specs.Rows.{firstRow, openTerm, row}
-use Rattle.record.specs.Term.{same}
+use Rattle.record.specs.Rows.{badBuffer, firstRow, openTerm, row}
 use Rattle.rules.specs.FreeVariables.{Vars, noVars}
 use Rattle.rules.specs.Reduction.{reduce}
 use Rattle.rules.specs.Run.{Ran}
@@ -17,8 +16,7 @@ use Rattle.rules.specs.Sound.{SoundTerm}
 use Rattle.rules.specs.Syntax.{Term}
 use Rattle.run.specs.RunAnswer.{refusal, roomFor}
 use Rattle.record.proofs.PaddedLaws.{length-padded}
-use Rattle.record.proofs.HeldLaws.{good-buffer}
-use Rattle.record.proofs.HoldingLaws.{padded-term, term-header, term-is, term-open, term-passes, term-size, term-used}
+use Rattle.record.proofs.HoldingLaws.{padded-term, term-header, term-is, term-open, term-passed, term-passes, term-size}
 use Rattle.record.proofs.RowLaws.{first-none, none-first, not-intro}
 use Rattle.rules.proofs.FinishedLaws.{reduce-finished}
 use Rattle.rules.proofs.RunLaws.{run-reached}
@@ -58,9 +56,8 @@ pub record ReducerTakes (buf : List ℕ) (used n : ℕ) : Type 0 where
 
 pub reducer-takes : {S : Vars} {hd : Header} {t : Term} {buf : List ℕ} {used : ℕ} → TermIn S hd t buf used → (n : ℕ) → firstRow (reducerRows buf n) ≡ 0 → ReducerTakes buf used n
 reducer-takes {S} {hd} {t} {buf} {used} h n e =
-    let r = first-none (reducerRows buf n) refl e in
-    let low = good-buffer buf n (r .0) .low in
-    record { low = low; same = term-used h n low (r .1 .0) }
+    let p = term-passed h n (badBuffer buf n) (λ q. q) (row 7 (openTerm buf n) ∷ []) (first-none (reducerRows buf n) refl e) in
+    record { low = p .low; same = p .same }
 
 pub reducer-passes : {hd : Header} {t : Term} {buf : List ℕ} {used : ℕ} → TermIn noVars hd t buf used → length buf ≤ 16384 → firstRow (reducerRows buf used) ≡ 0
 reducer-passes {hd} {t} {buf} {used} h l =

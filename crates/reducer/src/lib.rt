@@ -5,13 +5,14 @@ ghost use Rattle.rules.specs.Syntax.{Term};
 ghost use Rattle.run.specs.Represents.{asRunAnswer};
 ghost use Rattle.reducer.specs.RunReducer.{runReducer};
 ghost use Rattle.reducer.specs.Running.{Accepted, Gives, acceptedRun};
-use filling::closed::is_closed;
 use plan::outcome_of;
 use record::Header;
+use record::refusal::FREE_VARIABLE;
 use redex::look;
 use reducing::perform;
 use run::RunEnd;
 use run::Tally;
+use substitution::closed::is_closed;
 use term_checker::check_term;
 
 // The run of what the rows let through, a closed term. The bytes behind the record are made zero first, and every
@@ -49,7 +50,7 @@ pub fn run_reducer(buf: &mut [u8], used: usize, budget: u32) -> RunEnd
     }
     let h = record::read_header(buf);
     if !is_closed(buf, used, h) {
-        return run::refuse(7);
+        return run::refuse(FREE_VARIABLE);
     }
     run_accepted(buf, used, h, budget)
 }

@@ -23,11 +23,11 @@ use Rattle.place.specs.Nesting.{around, plug, rests}
 use Rattle.place.specs.TermPath.{Redex, redex, redexLetAll, redexLetOne, redexRec, termPath, terms}
 use Rattle.place.specs.TermView.{TermAt}
 use Rattle.place.specs.Whole.{relengthAll, termFront}
-use Rattle.filling.specs.Ranged.{RangedTerm}
-use Rattle.filling.proofs.RangedLaws.{sound-ranged}
+use Rattle.substitution.specs.Ranged.{RangedTerm}
+use Rattle.substitution.proofs.RangedLaws.{sound-ranged}
 use Rattle.record.proofs.PaddedLaws.{padded-zeros}
 use Rattle.record.proofs.HeaderLaws.{length-encodeTerm, length-encodeTermRecord}
-use Rattle.record.proofs.WordsLaws.{termSize-substitute}
+use Rattle.record.proofs.SizeLaws.{termSize-substitute}
 use Rattle.rules.proofs.FreeVariablesLaws.{closed-nums}
 use Rattle.rules.proofs.SoundTermLaws.{sound-closed}
 use Rattle.place.proofs.AtLaws.{put-take}

@@ -1,9 +1,10 @@
 -- Laws of the plan: what it says of the redex that it is made for, and what that reduces to.
 use Prim.Native.Nat.{ℕ, zero, suc, _*_, _+_}
-use mathlib.Core.Path.{_≡_, _∙_, ap, refl, sym}
+use mathlib.Core.Path.{_≡_, _∙_, ap, refl, subst, sym}
 use mathlib.Core.Bool.{Bool, true, false, cond}
 use mathlib.Core.List.{List, map}
 use lib.ListN.{length}
+use native.Mathlib.Omega.{arith}
 use Rattle.rules.specs.Reduction.{onNext, reduce, reduceLetOne, unrollRec, valueOf}
 use Rattle.rules.specs.Substitution.{fromStore, only, substitute}
 use Rattle.rules.specs.Syntax.{Atom, Simple, Term, letAll, letOne, next, num, over, plain, predOf, rec, succOf, tuple}
@@ -12,10 +13,10 @@ use Rattle.place.specs.Nesting.{plug}
 use Rattle.place.specs.TermPath.{Redex, redex, termPath, terms}
 use Rattle.place.proofs.TermBytesLaws.{size-pred, size-succ}
 use Rattle.place.proofs.TermPathLaws.{plug-redex, redex-kind, reduce-letAll-tuple, reduce-plug}
-use Rattle.plan.specs.Plan.{plan, planRaise}
+use Rattle.plan.specs.Plan.{plan, planRaise, planTurn}
 use Rattle.plan.specs.declared.Plan.{Plan}
 use Rattle.plan.specs.declared.Rule.the-variants.{Bind, Evaluate, Finished, Leave, Over, Stop, Unroll}
-use Rattle.redex.specs.Plan.{planLetOne, planRec, planRedex}
+use Rattle.redex.specs.Plan.{planLetOne, planRedex}
 
 -- THE PLAN
 
@@ -47,10 +48,14 @@ module _ (ok : ℕ → Bool) (levels p : ℕ) where
   planned-letOne x (succOf a) t = planned-raise x a t (ok (suc (valueOf a))) refl
   planned-letOne x (predOf a) t = plannedEvaluate (size-pred a) refl
 
-  planned-rec : (x : ℕ) (a : Atom) (ys : List Atom) (t : Term) (v : ℕ) → valueOf a ≡ v → Planned ok levels p (rec x a ys t) (planRec levels p x (termSize t) v)
-  unfolding planRec reduce unrollRec
-  planned-rec x a ys t zero e = plannedStop (ap (λ (n : ℕ). next (unrollRec x n ys t)) e)
-  planned-rec x a ys t (suc q) e = plannedUnroll (ap (λ (n : ℕ). next (unrollRec x n ys t)) e)
+  planned-rec : (x : ℕ) (a : Atom) (ys : List Atom) (t : Term) (v : ℕ) → valueOf a ≡ v → Planned ok levels p (rec x a ys t) (planTurn levels p x (4 + termSize t) v)
+  unfolding planTurn reduce unrollRec
+  planned-rec x a ys t zero e =
+      let s : 20 + termSize t ≡ 16 + (4 + termSize t) = omega arith in
+      subst (λ (m : ℕ). Planned ok levels p (rec x a ys t) (plan levels p Stop x 0 0 m)) s (plannedStop (ap (λ (n : ℕ). next (unrollRec x n ys t)) e))
+  planned-rec x a ys t (suc q) e =
+      let s : 24 + termSize t ≡ 20 + (4 + termSize t) = omega arith in
+      subst (λ (m : ℕ). Planned ok levels p (rec x a ys t) (plan levels p Unroll x (suc q) m 0)) s (plannedUnroll (ap (λ (n : ℕ). next (unrollRec x n ys t)) e))
 
   pub planned-redex : (t : Term) → Planned ok levels p t (planRedex ok levels p t)
   unfolding planRedex

@@ -15,7 +15,7 @@ use Rattle.record.specs.Term.{encodeTermRecord}
 use Rattle.place.specs.Edit.{lead, leafBytes, removed, unrolled}
 use Rattle.place.specs.Heads.{recordHead}
 use Rattle.place.specs.TermView.{TermAt}
-use Rattle.filling.specs.Ranged.{RangedTerm}
+use Rattle.substitution.specs.Ranged.{RangedTerm}
 use Rattle.redex.specs.Plan.{planOf}
 use Rattle.plan.specs.Plan.{Moves}
 use Rattle.plan.specs.declared.Plan.{Plan}

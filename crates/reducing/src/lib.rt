@@ -11,7 +11,7 @@ ghost use Rattle.rules.specs.Syntax.{Term, num, tuple};
 ghost use Rattle.record.specs.declared.Header.{Header};
 ghost use Rattle.record.specs.Header.{contentsAt, okOf};
 ghost use Rattle.place.specs.TermView.{TermAt};
-ghost use Rattle.filling.specs.Ranged.{RangedTerm};
+ghost use Rattle.substitution.specs.Ranged.{RangedTerm};
 ghost use Rattle.redex.specs.Plan.{planOf};
 ghost use Rattle.reducing.specs.Perform.{EditFits, Edited, Performed, Ready, filledAt, numeralAt, stoppedAt, unrolledAt};
 ghost use Rattle.reducing.specs.State.{Stands};
@@ -23,7 +23,6 @@ use edit::put_leaf;
 use edit::relength;
 use edit::remove;
 use edit::spread;
-use filling::substitution::substitute_at;
 use moves::move_down;
 use numerals::values::from_tuple;
 use numerals::values::only;
@@ -32,6 +31,7 @@ use plan::Rule;
 use record::kind::LET_ALL;
 use record::kind::LET_ONE;
 use record::kind::NUMERAL;
+use substitution::substitute::substitute_at;
 
 // Let-one of a numeral: the value goes into its last term, and its other 16 bytes go.
 fn let_one(buf: &mut [u8], at: usize, k: u32, used: usize, x: u32, v: u32)

@@ -13,14 +13,13 @@ use Rattle.buffer.specs.Slice.{part}
 use Rattle.buffer.proofs.LittleEndianLaws.{bytes-take}
 use Rattle.record.specs.Answers.{Checked, checkProgram, checkProgramRows, checkedBy}
 use Rattle.record.specs.declared.Header.{Header}
-use Rattle.record.specs.Header.{program}
 use Rattle.record.specs.Holding.{ProgramIn}
-use Rattle.record.specs.Rows.{NoRow, Row, badBlock, badBuffer, badHeader, badK, blockOutside, firstRow, programRows, row}
+use Rattle.record.specs.Rows.{NoRow, Row, badBuffer, firstRow, programRows, row}
 use Rattle.record.proofs.AnswerLaws.{check-program-number, check-program-refused, checked-accepted, checked-refused}
 use Rattle.record.proofs.CheckedRowLaws.{program-accepted}
 use Rattle.record.proofs.HeldLaws.{buffer-good}
 use Rattle.record.proofs.HoldingLaws.{check-program, program-k}
-use Rattle.record.proofs.RowLaws.{first-applies, first-before, first-none, first-skips, none-first}
+use Rattle.record.proofs.RowLaws.{first-applies, first-before, first-behind, first-none, first-skips, none-first}
 use Rattle.rules.specs.Syntax.{Block}
 use Rattle.report.specs.Line.{inputRows, kOfInput, recordOf, saidLength}
 use Rattle.report.specs.Reads.{RecordRead, WholeRecord}
@@ -73,10 +72,7 @@ module _ (input : List ℕ) where
     pub rows-behind : (more : List Row) → NoRow (checkProgramRows (recordOf input) (saidLength input)) → firstRow (inputRows input more) ≡ firstRow (row6 input ∷ more)
     rows-behind more r =
         rows-whole more w
-        ∙ first-skips 2 (badHeader program (recordOf input) (saidLength input)) _ (r .1 .0)
-        ∙ first-skips 3 (badK (recordOf input) (saidLength input)) _ (r .1 .1 .0)
-        ∙ first-skips 4 (badBlock (recordOf input) (saidLength input)) _ (r .1 .1 .1 .0)
-        ∙ first-skips 5 (blockOutside (recordOf input) (saidLength input)) _ (r .1 .1 .1 .1 .0)
+        ∙ first-behind (programRows (recordOf input) (saidLength input) []) (row6 input ∷ more) (r .1)
 
 -- WHAT THE CODE ANSWERS
 

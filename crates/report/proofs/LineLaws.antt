@@ -12,12 +12,12 @@ use Rattle.buffer.specs.LittleEndian.{val}
 use Rattle.buffer.specs.Slice.{part, put, zeros}
 use Rattle.buffer.proofs.SliceLaws.{length-zeros}
 use Rattle.record.specs.Answers.{Checked, Wrote, checkProgramRows, padded}
-use Rattle.record.specs.Header.{program}
-use Rattle.record.specs.Rows.{NoRow, badBlock, badBuffer, badHeader, badK, blockOutside, firstRow, row, tooLong}
+use Rattle.record.specs.Rows.{NoRow, badBuffer, firstRow, programRows, row, tooLong}
 use Rattle.record.proofs.AnswerLaws.{checked-accepted, checked-number, wrote-accepted}
 use Rattle.record.proofs.PaddedLaws.{padded-zeros}
-use Rattle.record.proofs.HeldLaws.{good-eight, good-header, good-k, not-long}
-use Rattle.record.proofs.RowLaws.{first-before, first-none, first-skips, or-intro}
+use Rattle.record.proofs.HeldLaws.{not-long}
+use Rattle.record.proofs.HoldingLaws.{passed-k, passed-length}
+use Rattle.record.proofs.RowLaws.{first-before, first-behind, first-none, first-skips, none-split, or-intro}
 use Rattle.reducer.specs.RunReducer.{runReducer}
 use Rattle.run.specs.RunAnswer.{RunAnswer}
 use Rattle.stepper.specs.RunStepper.{runStepper}
@@ -92,13 +92,14 @@ input-passes input c e z =
     let r = first-none (inputRows input []) refl n in
     let w : WholeRecord input = record { two = ltb-false (length input) 2 (r .0); fits = ltb-false 16384 (saidLength input) (r .1 .0); there = ltb-false (length input) (saidLength input) (r .1 .1 .0) } in
     let k : kOfInput input ≡ c .k = sym (ap (λ (d : Checked). d .k) (e ∙ checked-accepted (firstRow (inputRows input [])) (kOfInput input) n)) in
-    let g = good-k (recordOf input) (saidLength input) (r .1 .1 .1 .1 .0) in
-    let q = eqb-true (length input - saidLength input) (4 * kOfInput input) (not-false (eqb (length input - saidLength input) (4 * kOfInput input)) (r .1 .1 .1 .1 .1 .1 .1 .0)) in
+    let v = none-split (programRows (recordOf input) (saidLength input) []) (row6 input ∷ []) (r .1 .1 .1) in
+    let rows : NoRow (checkProgramRows (recordOf input) (saidLength input)) = (record-buffer input w, v .0) in
+    let q = eqb-true (length input - saidLength input) (4 * kOfInput input) (not-false (eqb (length input - saidLength input) (4 * kOfInput input)) (v .1 .0)) in
     record {
       whole = w;
-      rows = (record-buffer input w, (r .1 .1 .1 .0, (r .1 .1 .1 .1 .0, (r .1 .1 .1 .1 .1 .0, (r .1 .1 .1 .1 .1 .1 .0, tt)))));
+      rows = rows;
       is-k = k;
-      low = omega (arith, g .1);
+      low = omega (arith, passed-k (recordOf input) (saidLength input) rows);
       rest = q ∙ ap (λ (j : ℕ). 4 * j) k;
     }
 
@@ -116,11 +117,8 @@ module _ {input a b behind : List ℕ} {total : ℕ} (h : Reads input a b behind
   translation-rows : (out : List ℕ) → length out ≤ 16384
       → firstRow (translateRows (recordOf input) (saidLength input) out) ≡ firstRow (row 10 (tooShort out (translated (recordOf input) (saidLength input))) ∷ [])
   translation-rows out l =
-      first-skips 1 (badBuffer (recordOf input) (saidLength input) || tooLong out) _ (or-intro (p .rows .0) (not-long out l))
-      ∙ first-skips 2 (badHeader program (recordOf input) (saidLength input)) _ (p .rows .1 .0)
-      ∙ first-skips 3 (badK (recordOf input) (saidLength input)) _ (p .rows .1 .1 .0)
-      ∙ first-skips 4 (badBlock (recordOf input) (saidLength input)) _ (p .rows .1 .1 .1 .0)
-      ∙ first-skips 5 (blockOutside (recordOf input) (saidLength input)) _ (p .rows .1 .1 .1 .1 .0)
+      first-behind (row 1 (badBuffer (recordOf input) (saidLength input) || tooLong out) ∷ programRows (recordOf input) (saidLength input) []) _
+      (or-intro (p .rows .0) (not-long out l), p .rows .1)
 
   last-row : firstRow (lineRows input) ≡ firstRow (row 10 (tooShort (replicate programBuffer 0) (translated (recordOf input) (saidLength input))) ∷ [])
   last-row =
@@ -171,7 +169,7 @@ module _ {input a b behind : List ℕ} {total : ℕ} (h : Reads input a b behind
 
   -- the values
   behind-is : behind ≡ take 65 (drop (saidLength input) input)
-  behind-is = h .values (p .whole) (omega (arith, good-eight (good-header program (recordOf input) (saidLength input) (p .rows .1 .0))))
+  behind-is = h .values (p .whole) (omega (arith, passed-length (recordOf input) (saidLength input) (p .rows)))
 
   pub values-there : 4 * k ≤ length behind
   values-there =

@@ -14,6 +14,10 @@ use buffer::get_u16;
 use buffer::get_u32;
 use checker::Checked;
 use program_checker::check_program;
+use record::limit::BUFFER;
+use record::refusal::BAD_BUFFER;
+use record::refusal::BAD_HEADER;
+use record::refusal::BAD_STORE;
 
 fn refused(number: u32) -> Checked
     ensures { λ r. ⌜ asChecked r ≡ record { number = number; k = 0 } ⌝ }
@@ -27,21 +31,21 @@ pub fn check_input(a: &[u8], total: usize) -> Checked
     ensures { λ r. ⌜ ((input : List ℕ) → RecordRead input (now (a .entry)) total → asChecked r ≡ checkedBy (firstRow (inputRows input [])) (kOfInput input)) × (r .number ≡ 0 → (val (part (now (a .entry)) 0 2) ≤ 16384) × (r .k ≤ 16)) ⌝ }
 {
     if total < 2 {
-        return refused(2);
+        return refused(BAD_HEADER);
     }
     let said = get_u16(a, 0);
-    if 16384 < said {
-        return refused(1);
+    if BUFFER < said {
+        return refused(BAD_BUFFER);
     }
     if total < said {
-        return refused(2);
+        return refused(BAD_HEADER);
     }
     let checked = check_program(&a[..said], said);
     if checked.number != 0 {
         return checked;
     }
     if total - said != 4 * checked.k as usize {
-        return refused(6);
+        return refused(BAD_STORE);
     }
     checked
 }

@@ -14,6 +14,8 @@ use buffer::get_u16;
 use buffer::zero;
 use print::put_ran;
 use print::put_refused;
+use record::limit::VARIABLES;
+use record::refusal::BAD_STORE;
 use reducer::run_reducer;
 use stepper::run_stepper;
 use term::substitute::substitute;
@@ -52,7 +54,7 @@ pub fn line(a: &mut [u8], b: &mut [u8], behind: &[u8], total: usize) -> usize
     }
     // Of an input that was read as `Reads` says, row 6 is tested already and this never holds.
     if behind.len() < 4 * checked.k as usize {
-        return put_refused(b, 6);
+        return put_refused(b, BAD_STORE);
     }
     let said = get_u16(a, 0);
     let term = translate(&a[..said], said, b);
@@ -60,7 +62,7 @@ pub fn line(a: &mut [u8], b: &mut [u8], behind: &[u8], total: usize) -> usize
         return put_refused(b, term.number);
     }
     zero(a, said, a.len() - said);
-    let mut store = [0; 16];
+    let mut store = [0; VARIABLES as usize];
     run_both(
         a,
         said,

@@ -8,7 +8,7 @@ use mathlib.Core.Option.{Option·some-injective, some}
 use native.Mathlib.Omega.{arith}
 use Rattle.rules.specs.Evaluate.{Evaluated, after, assignSteps, evaluate, exprValue, thenEvaluate, turns}
 use Rattle.rules.specs.Rules.{at}
-use Rattle.rules.specs.Run.{goOn, isFinished, iterate, oneMore, orStop, outcomeOf, run, runOn, stop}
+use Rattle.rules.specs.Run.{isFinished, iterate, orStop, outcomeOf, run}
 use Rattle.rules.specs.Step.{boundValue, step, stepAssign, stepBlock, stepInside, unrollLoop}
 use Rattle.rules.specs.Store.{lookup, minusOne, noLimit, update}
 use Rattle.rules.specs.Syntax.{Answer, Block, Bound, Config, Expr, assign, dec, empty, finished, inc, lit, loop, nest, next, over, upto, var}
@@ -16,7 +16,7 @@ use Rattle.rules.specs.Translation.{all}
 use Rattle.rules.proofs.IterateLaws.{iterate-further}
 use Rattle.rules.proofs.OverLaws.{step-noLimit}
 use Rattle.rules.proofs.RulesLaws.{rules-step, step-rules}
-use Rattle.rules.proofs.RunLaws.{run-stopped}
+use Rattle.rules.proofs.WalkLaws.{Halts, empty-halts, reaches-walk, walk-runs}
 
 -- REACHING
 
@@ -127,13 +127,10 @@ evaluates (nest b r) s =
 pub terminates : (P : Block) (μ : List ℕ) → iterate (step noLimit) ((evaluate P μ) .steps) (at P μ) ≡ some (at empty ((evaluate P μ) .store))
 terminates P μ = evaluates P μ
 
--- ANY MACHINE WITH ROOM FOR EVERYTHING, and a run that reaches a state from which there is no step
+-- ANY MACHINE, and a state from which there is no step
 
 module _ {A : Type 0} (f : A → Answer A) where
-  abbrev Halts : A → Type 0
-  Halts a = (b : A) → f a ≡ next b → ⊥
-
-  halts-first : (n : ℕ) (a b : A) → Halts a → iterate f n a ≡ some b → (n ≡ 0) × (a ≡ b)
+  halts-first : (n : ℕ) (a b : A) → Halts f a → iterate f n a ≡ some b → (n ≡ 0) × (a ≡ b)
   unfolding iterate
   halts-first zero a b h e = (refl, Option·some-injective a b e)
   halts-first (suc n) a b h e = go (f a) refl e
@@ -144,7 +141,7 @@ module _ {A : Type 0} (f : A → Answer A) where
       go (next c) q g = absurd (h c q)
 
   -- it is reached in one number of steps only, and is one state only
-  pub halts-once : (m n : ℕ) (a b c : A) → iterate f m a ≡ some b → Halts b → iterate f n a ≡ some c → Halts c → (m ≡ n) × (b ≡ c)
+  pub halts-once : (m n : ℕ) (a b c : A) → iterate f m a ≡ some b → Halts f b → iterate f n a ≡ some c → Halts f c → (m ≡ n) × (b ≡ c)
   unfolding iterate
   halts-once zero n a b c p hb q hc =
       let same : a ≡ b = Option·some-injective a b p in
@@ -161,34 +158,16 @@ module _ {A : Type 0} (f : A → Answer A) where
       go more over u v = unfold orStop in absurd (let z : _≡_ {A = ℕ} 0 1 = cc in omega arith)
       go more (next d) u v = unfold orStop in (let r = more d u v in (ap suc (r .0), r .1))
 
-  -- with room for everything and budget enough, a run gets there and stops
-  module _ (fits : A → Bool) (roomy : (a : A) → fits a ≡ true) where
-    pub run-to-end : (m n : ℕ) (a b : A) → m ≤ n → iterate f m a ≡ some b → Halts b → run f fits n a ≡ record { count = m; outcome = outcomeOf f fits (f b); state = b }
-    unfolding iterate run stop
-    run-to-end zero n a b l e h =
-        let same : a ≡ b = Option·some-injective a b e in
-        run-stopped f fits n a (λ v. h (v .0) (ap f (sym same) ∙ v .1)) ∙ ap (stop f fits) same
-    run-to-end (suc m) zero a b l e h = absurd (omega arith)
-    run-to-end (suc m) (suc n) a b l e h = go (λ c g. run-to-end m n c b (omega arith) g h) (f a) e
-      where
-        go : ((c : A) → iterate f m c ≡ some b → run f fits n c ≡ record { count = m; outcome = outcomeOf f fits (f b); state = b }) → (o : Answer A)
-            → orStop o (λ c. iterate f m c) ≡ some b → runOn f fits a (λ c. run f fits n c) o ≡ record { count = suc m; outcome = outcomeOf f fits (f b); state = b }
-        go more (finished vs) g = unfold orStop in absurd (let z : _≡_ {A = ℕ} 0 1 = cc in omega arith)
-        go more over g = unfold orStop in absurd (let z : _≡_ {A = ℕ} 0 1 = cc in omega arith)
-        go more (next c) g = unfold orStop runOn goOn oneMore in (rw (roomy c, more c g) refl)
-
 -- EVERY PROGRAM FINISHES
-
-empty-halts : (ok : ℕ → Bool) (μ : List ℕ) → Halts (step ok) (at empty μ)
-unfolding step stepBlock
-empty-halts ok μ b e = let z : _≡_ {A = ℕ} 0 1 = cc in omega arith
 
 -- with no largest value, room for everything and budget enough, a run finishes with the evaluator's steps and store
 pub run-finishes : (fits : Config → Bool) → ((c : Config) → fits c ≡ true) → (P : Block) (μ : List ℕ) (budget : ℕ) → (evaluate P μ) .steps ≤ budget
     → run (step noLimit) fits budget (at P μ) ≡ record { count = (evaluate P μ) .steps; outcome = isFinished; state = at empty ((evaluate P μ) .store) }
 unfolding step stepBlock outcomeOf
 run-finishes fits roomy P μ budget l =
-    run-to-end (step noLimit) fits roomy ((evaluate P μ) .steps) budget (at P μ) (at empty ((evaluate P μ) .store)) l (terminates P μ) (empty-halts noLimit ((evaluate P μ) .store))
+    walk-runs (step noLimit) (λ (c : Config). fits c ≡ true) fits (λ c h. h)
+    (reaches-walk (step noLimit) (λ (c : Config). fits c ≡ true) roomy ((evaluate P μ) .steps) (at P μ) (at empty ((evaluate P μ) .store)) (terminates P μ))
+    (empty-halts noLimit ((evaluate P μ) .store)) budget l
 
 -- UNDER A LIMIT
 

@@ -14,4 +14,5 @@ pub mod OutcomeLaws
 pub mod PlayLaws
 pub mod RulesLaws
 pub mod OverLaws
+pub mod WalkLaws
 pub mod EvaluateLaws

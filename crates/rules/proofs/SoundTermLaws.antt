@@ -174,6 +174,36 @@ module _ (ok : ℕ → Bool) (limit : Limit ok) where
       ((h .0, sound-bound k b (h .1) (hs .0), length-refs 1 k, sound-all k, sound-translate k body (h .2) (hs .1)), sound-translate k r (h .3) (hs .2))
   sound-translate k (nest b r) h hs = (sound-translate k b (h .0) (hs .0), sound-translate k r (h .1) (hs .1))
 
+  expr-sound : (k : ℕ) (e : Expr) → SoundSimple ok k allVars (simpleOf e) → ExprWithin k e × SmallExpr ok e
+  unfolding simpleOf
+  expr-sound k (lit n) h = (tt, h)
+  expr-sound k (var x) h = (h .0, tt)
+  expr-sound k (inc x) h = (h .0, tt)
+  expr-sound k (dec x) h = (h .0, tt)
+
+  bound-sound : (k : ℕ) (b : Bound) → SoundAtom ok k allVars (atomOf b) → BoundWithin k b × SmallBound ok b
+  unfolding atomOf
+  bound-sound k (upto n) h = (tt, h)
+  bound-sound k (uptoVar x) h = (h .0, tt)
+
+  -- what translates to a sound term is a program
+  pub translate-sound : (k : ℕ) (b : Block) → SoundTerm ok k allVars (translate k b) → BlockWithin k b × SmallBlock ok b
+  unfolding translate
+  translate-sound k empty h = (tt, tt)
+  translate-sound k (assign x e r) h =
+      let a = expr-sound k e (h .1) in
+      let q = translate-sound k r (subst (λ S. SoundTerm ok k S (translate k r)) (adding-all x) (h .2)) in
+      ((h .0, a .0, q .0), (a .1, q .1))
+  translate-sound k (loop x b body r) h =
+      let a = bound-sound k b (h .0 .1) in
+      let p = translate-sound k body (h .0 .4) in
+      let q = translate-sound k r (h .1) in
+      ((h .0 .0, a .0, p .0, q .0), (a .1, p .1, q .1))
+  translate-sound k (nest b r) h =
+      let p = translate-sound k b (h .0) in
+      let q = translate-sound k r (h .1) in
+      ((p .0, q .0), (p .1, q .1))
+
   -- the state of a sound configuration is a sound closed term
   pub sound-stateOf : (k : ℕ) (c : Config) → SoundConfig ok k c → SoundTerm ok k noVars (stateOf k c)
   unfolding stateOf

@@ -24,6 +24,13 @@ pub data Block : Type 0 where
   loop : ℕ → Bound → Block → Block → Block
   nest : Block → Block → Block
 
+-- The commands of a block, and then those of another.
+unfoldable pub append : Block → Block → Block
+append empty c = c
+append (assign x e r) c = assign x e (append r c)
+append (loop x n p r) c = loop x n p (append r c)
+append (nest p r) c = nest p (append r c)
+
 -- A configuration of the stepper: what is left of the program (01's tariff), and the store of k values.
 pub record Config : Type 0 where
   pub block : Block

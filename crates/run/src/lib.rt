@@ -15,16 +15,27 @@ pub enum Outcome {
     Refused,
 }
 
+// The outcomes' numbers in C.
+const REFUSED: u32 = 0;
+
+const FINISHED: u32 = 1;
+
+const OVER: u32 = 2;
+
+const NO_ROOM: u32 = 3;
+
+const SPENT: u32 = 4;
+
 // An enum cannot cross the C boundary: its number does.
 pub fn outcome_number(o: Outcome) -> u32
     ensures { λ r. ⌜ r ≡ outcomeNumber (asOutcome o) ⌝ }
 {
     match o {
-        Outcome::Finished => 1,
-        Outcome::Over => 2,
-        Outcome::NoRoom => 3,
-        Outcome::Spent => 4,
-        Outcome::Refused => 0,
+        Outcome::Finished => FINISHED,
+        Outcome::Over => OVER,
+        Outcome::NoRoom => NO_ROOM,
+        Outcome::Spent => SPENT,
+        Outcome::Refused => REFUSED,
     }
 }
 

@@ -8,7 +8,7 @@ use native.Mathlib.Omega.{arith}
 use Rattle.record.specs.declared.Header.{Header}
 use Rattle.record.specs.Header.{okOf}
 use Rattle.record.specs.Holding.{ProgramIn}
-use Rattle.record.specs.Rows.{badStore, firstRow, kOf, row}
+use Rattle.record.specs.Rows.{badBuffer, badStore, firstRow, kOf, row}
 use Rattle.record.specs.Term.{same}
 use Rattle.rules.specs.Run.{Ran}
 use Rattle.rules.specs.Sound.{SmallValues, SoundConfig}
@@ -17,8 +17,8 @@ use Rattle.rules.specs.Syntax.{Block, Config}
 use Rattle.run.specs.RunAnswer.{refusal, roomFor}
 use Rattle.record.proofs.HeaderLaws.{ok-limit}
 use Rattle.record.proofs.PaddedLaws.{length-padded}
-use Rattle.record.proofs.HeldLaws.{good-buffer, good-store, store-good}
-use Rattle.record.proofs.HoldingLaws.{padded-program, program-header, program-is, program-k, program-passes, program-size, program-used}
+use Rattle.record.proofs.HeldLaws.{good-store, store-good}
+use Rattle.record.proofs.HoldingLaws.{padded-program, program-header, program-is, program-k, program-passed, program-passes, program-size}
 use Rattle.record.proofs.RowLaws.{first-none, none-first}
 use Rattle.rules.proofs.FinishedLaws.{step-finished}
 use Rattle.rules.proofs.RunLaws.{run-reached}
@@ -61,10 +61,8 @@ pub record StepperTakes (hd : Header) (buf : List ℕ) (used n : ℕ) (store : L
 pub stepper-takes : {hd : Header} {P : Block} {buf : List ℕ} {used : ℕ} → ProgramIn hd P buf used → (n : ℕ) (store : List ℕ)
     → firstRow (stepperRows buf n store) ≡ 0 → StepperTakes hd buf used n store
 stepper-takes {hd} {P} {buf} {used} h n store e =
-    let r = first-none (stepperRows buf n store) refl e in
-    let low = good-buffer buf n (r .0) .low in
-    let same : n ≡ used = program-used h n low (r .1 .0) in
-    record { low = low; same = same; values = good-store buf n store (r .1 .1 .1 .1 .1 .0) ∙ ap (kOf buf) same ∙ program-k h }
+    let p = program-passed h n (badBuffer buf n) (λ q. q) (row 6 (badStore buf n store) ∷ []) (first-none (stepperRows buf n store) refl e) in
+    record { low = p .low; same = p .same; values = good-store buf n store (p .behind .0) ∙ ap (kOf buf) (p .same) ∙ program-k h }
 
 pub stepper-passes : {hd : Header} {P : Block} {buf : List ℕ} {used : ℕ} → ProgramIn hd P buf used → length buf ≤ 16384 → (store : List ℕ) → length store ≡ hd .k
     → firstRow (stepperRows buf used store) ≡ 0
@@ -91,7 +89,7 @@ module _ {hd : Header} {P : Block} {buf : List ℕ} {used : ℕ} (h : ProgramIn 
   sound-left : SoundConfig (okOf hd) (hd .k) (ran .state)
   sound-left =
       sound-steps (okOf hd) (ok-limit hd) (hd .k) (ran .count) c₀ (ran .state)
-      (record { variables = record { block = h .variables; size = e }; literals = h .literals; values = hs })
+      (record { variables = record { block = h .isProgram .variables; size = e }; literals = h .isProgram .literals; values = hs })
       (run-reached (step (okOf hd)) (roomFor (configBytes hd) (length buf)) budget c₀)
 
   roomy : length (configBytes hd (ran .state)) ≤ length buf
@@ -107,7 +105,7 @@ module _ {hd : Header} {P : Block} {buf : List ℕ} {used : ℕ} (h : ProgramIn 
         bytes = refl;
         values = refl;
         finishes = Iff·trans (answers .finishes) (step-finished (okOf hd) (ran .state));
-        again = padded-program hd (ran .state .block) (length buf) (h .header) (sound-left .variables .block) (sound-left .literals);
+        again = padded-program hd (ran .state .block) (length buf) (h .header) record { variables = sound-left .variables .block; literals = sound-left .literals };
         sound = sound-left;
         sameRoom = length-padded (length buf) (configBytes hd (ran .state)) roomy;
       }

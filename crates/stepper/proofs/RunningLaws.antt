@@ -49,7 +49,7 @@ accepted-stands {hd} {P} {buf} {used} {store} h l e =
     record {
       holds = subst (λ (q : List ℕ). ProgramIn hd P q used) (sym is)
           (subst (λ (n : ℕ). ProgramIn hd P (padded (length buf) bytes) n) (sym size)
-          (padded-program hd P (length buf) (h .holds .header) (h .holds .variables) (h .holds .literals)));
+          (padded-program hd P (length buf) (h .holds .header) (h .holds .isProgram)));
       short = omega (arith, h .short);
       clear = is ∙ ap (λ (n : ℕ). padded n bytes) (sym long);
       count = h .count;

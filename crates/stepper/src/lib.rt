@@ -9,6 +9,7 @@ use command::look;
 use plan::outcome_of;
 use program_checker::check_program;
 use record::Header;
+use record::refusal::BAD_STORE;
 use run::RunEnd;
 use run::Tally;
 use stepping::perform;
@@ -52,7 +53,7 @@ pub fn run_stepper(buf: &mut [u8], used: usize, store: &mut [u32], budget: u32) 
         return run::refuse(number);
     }
     if store.len() != checked.k as usize {
-        return run::refuse(6);
+        return run::refuse(BAD_STORE);
     }
     let h = record::read_header(buf);
     run_accepted(buf, used, h, store, budget)

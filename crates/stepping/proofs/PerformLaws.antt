@@ -218,7 +218,7 @@ module _ {hd : Header} {P : Block} {s : List ℕ} {l : List ℕ} {used : ℕ} (h
   within-spot : (b : Block) → spot P ≡ b → BlockWithin (hd .k) b
   within-spot b is =
       subst (λ (c : Block). BlockWithin (hd .k) c) is
-      (plug-keeps blocks (λ (c : Block). BlockWithin (hd .k) c) (λ t r w. w .0) (path P) (spot P) (subst (λ (c : Block). BlockWithin (hd .k) c) (sym (plug-spot P)) (h .holds .variables)))
+      (plug-keeps blocks (λ (c : Block). BlockWithin (hd .k) c) (λ t r w. w .0) (path P) (spot P) (subst (λ (c : Block). BlockWithin (hd .k) c) (sym (plug-spot P)) (h .holds .isProgram .variables)))
 
   asks-by : (b : Block) (q : Plan) → Planned (okOf hd) s (length (path P)) place b q → spot P ≡ b → used + q .up ≤ length l + q .down → PlanFits (contentsAt hd) q used (length l) (length s)
   asks-by _ _ plannedFinished is fits = record { edit = tt; value = tt; levels = omega (arith, spot-room h, fits-buf); up = omega arith; down = omega arith }

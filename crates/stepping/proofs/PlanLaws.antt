@@ -12,10 +12,10 @@ use native.Mathlib.Omega.{arith}
 use Rattle.place.proofs.PathLaws.{spot-is}
 use Rattle.place.proofs.ProgramBytesLaws.{blockSize-assign, blockSize-loop, blockSize-nest}
 use Rattle.place.specs.Path.{Spot, spot, spotAssign, spotEmpty, spotLoop}
-use Rattle.plan.specs.Plan.{plan, planRaise}
+use Rattle.plan.specs.Plan.{plan, planRaise, planTurn}
 use Rattle.plan.specs.declared.Plan.{Plan}
 use Rattle.plan.specs.declared.Rule.the-variants.{Bind, Evaluate, Finished, Leave, Over, Stop, Unroll}
-use Rattle.command.specs.Plan.{planAssign, planLoop, planSpot}
+use Rattle.command.specs.Plan.{planAssign, planSpot}
 
 -- The plan of a block at p, with the store s: the first command, and the rule that acts on it.
 pub data Planned (ok : ℕ → Bool) (s : List ℕ) (levels p : ℕ) : Block → Plan → Type 0 where
@@ -44,8 +44,8 @@ module _ (ok : ℕ → Bool) (s : List ℕ) (levels p : ℕ) where
   planned-assign x (inc y) r = planned-raise x y r (ok (suc (lookup s y))) refl
   planned-assign x (dec y) r = plannedEvaluate (rule5 rule2)
 
-  planned-loop : (x : ℕ) (n : Bound) (b r : Block) (v : ℕ) → boundValue s n ≡ v → Planned ok s levels p (loop x n b r) (planLoop levels p x (blockSize b) v)
-  unfolding planLoop
+  planned-loop : (x : ℕ) (n : Bound) (b r : Block) (v : ℕ) → boundValue s n ≡ v → Planned ok s levels p (loop x n b r) (planTurn levels p x (blockSize b) v)
+  unfolding planTurn
   planned-loop x n b r zero e = plannedStop (rule8 e)
   planned-loop x n b r (suc q) e = plannedUnroll (rule9 e)
 

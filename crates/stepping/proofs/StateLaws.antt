@@ -30,7 +30,7 @@ use Rattle.stepping.specs.State.{Stands, configBytes}
 -- A STEP leaves a configuration that stands again, where it fits
 
 stands-sound : {hd : Header} {c : Config} {buf : List ℕ} {used : ℕ} → Stands hd c buf used → SoundConfig (okOf hd) (hd .k) c
-stands-sound h = record { variables = record { block = h .holds .variables; size = h .count }; literals = h .holds .literals; values = h .values }
+stands-sound h = record { variables = record { block = h .holds .isProgram .variables; size = h .count }; literals = h .holds .isProgram .literals; values = h .values }
 
 sound-after : (hd : Header) (c d : Config) → SoundConfig (okOf hd) (hd .k) c → step (okOf hd) c ≡ next d → SoundConfig (okOf hd) (hd .k) d
 sound-after hd c d h e = subst (λ (a : Answer Config). OnNext (SoundConfig (okOf hd) (hd .k)) a) e (sound-step (okOf hd) (ok-limit hd) (hd .k) c h)
@@ -41,7 +41,7 @@ stands-after {hd} {c} {buf} d h e fits =
     let s = sound-after hd c d (stands-sound h) e in
     let n : length (padded (length buf) (configBytes hd d)) ≡ length buf = length-padded (length buf) (configBytes hd d) fits in
     record {
-      holds = padded-program hd (d .block) (length buf) (h .holds .header) (s .variables .block) (s .literals);
+      holds = padded-program hd (d .block) (length buf) (h .holds .header) record { variables = s .variables .block; literals = s .literals };
       short = omega (arith, h .short);
       clear = ap (λ (m : ℕ). padded m (configBytes hd d)) (sym n);
       count = s .variables .size;

@@ -23,18 +23,28 @@ use Rattle.record.proofs.RowLaws.{first-applies, first-behind, first-skips, isN
 use Rattle.record.proofs.RowMeaningLaws.{finished-iff, rows-mean}
 use Rattle.rules.proofs.FreeVariablesLaws.{closed-nums}
 use Rattle.rules.proofs.Tests.{true-false}
+use Rattle.term.specs.declared.Written.{Written}
+use Rattle.term.specs.Answer.{asWrote, refusedWith}
 use Rattle.term.specs.Calls.{readBackCall, readBackRows, resultCall, resultRows, substituteCall, substituteRows, translateCall, translateRows}
 use Rattle.term.proofs.CallLaws.{readBack-fits, readBack-long, readBack-none, readBack-number, readBack-refused, result-first, result-refused, substitute-gives, substitute-refused, translate-fits, translate-long, translate-number, translate-refused}
 use Rattle.term.proofs.CallMeaningLaws.{result-gives}
 
 -- A refusal of a call that writes a buffer.
 abbrev pub refusal : ℕ → List ℕ → Wrote
-refusal n buf = record { number = n; used = 0; written = buf }
+refusal n buf = asWrote (refusedWith n) buf
+
+-- What the code hands back, by what it is equal to.
+pub answers : {r w : Written} {after : List ℕ} {x : Wrote} → r ≡ w → asWrote w after ≡ x → asWrote r after ≡ x
+answers {r} {w} {after} {x} e h = ap (λ (v : Written). asWrote v after) e ∙ h
+
+-- a call that refuses by its first row, by the number of that row
+by-row : (rows : List Row) (out : List ℕ) (call : Wrote) → ((firstRow rows ≡ 0 → ⊥) → call ≡ refusal (firstRow rows) out) → (n : ℕ) → firstRow rows ≡ n → (n ≡ 0 → ⊥) → refusal n out ≡ call
+by-row rows out call refused n e h = sym (refused (λ z. h (sym e ∙ z)) ∙ ap (λ m. refusal m out) e)
 
 -- ROW 1 of a call with an output buffer
 
-either-long : (src : List ℕ) (used : ℕ) (out : List ℕ) → tooLong out ≡ true → (badBuffer src used || tooLong out) ≡ true
-either-long src used out h = or-true (badBuffer src used) (tooLong out) h
+long-first : (src : List ℕ) (used : ℕ) (out : List ℕ) (more : List Row) → tooLong out ≡ true → firstRow (row 1 (badBuffer src used || tooLong out) ∷ more) ≡ 1
+long-first src used out more h = first-applies 1 (badBuffer src used || tooLong out) more (or-true (badBuffer src used) (tooLong out) h)
 
 source-alone : (src : List ℕ) (used : ℕ) (out : List ℕ) → tooLong out ≡ false → (badBuffer src used || tooLong out) ≡ badBuffer src used
 source-alone src used out h = or-right (badBuffer src used) (tooLong out) h
@@ -42,11 +52,11 @@ source-alone src used out h = or-right (badBuffer src used) (tooLong out) h
 -- TRANSLATE
 
 translate-row : (src : List ℕ) (used : ℕ) (out : List ℕ) (n : ℕ) → firstRow (translateRows src used out) ≡ n → (n ≡ 0 → ⊥) → refusal n out ≡ translateCall src used out
-translate-row src used out n e h = sym (translate-refused src used out (λ z. h (sym e ∙ z)) ∙ ap (λ m. refusal m out) e)
+translate-row src used out = by-row (translateRows src used out) out (translateCall src used out) (translate-refused src used out)
 
 pub translate-one : (src : List ℕ) (used : ℕ) (out : List ℕ) → tooLong out ≡ true → refusal 1 out ≡ translateCall src used out
 translate-one src used out h =
-    translate-row src used out 1 (first-applies 1 (badBuffer src used || tooLong out) _ (either-long src used out h)) (λ z. omega (arith, z))
+    translate-row src used out 1 (long-first src used out _ h) (λ z. omega (arith, z))
 
 pub translate-checked : (src : List ℕ) (used n k : ℕ) (out : List ℕ) → checkProgram src used ≡ record { number = n; k = k } → (n ≡ 0 → ⊥) → tooLong out ≡ false
     → refusal n out ≡ translateCall src used out
@@ -68,11 +78,11 @@ module _ {hd : Header} {P : Block} {src : List ℕ} {used : ℕ} (h : ProgramIn 
 -- READ BACK
 
 readBack-row : (src : List ℕ) (used : ℕ) (out : List ℕ) (n : ℕ) → firstRow (readBackRows src used out) ≡ n → (n ≡ 0 → ⊥) → refusal n out ≡ readBackCall src used out
-readBack-row src used out n e h = sym (readBack-refused src used out (λ z. h (sym e ∙ z)) ∙ ap (λ m. refusal m out) e)
+readBack-row src used out = by-row (readBackRows src used out) out (readBackCall src used out) (readBack-refused src used out)
 
 pub readBack-one : (src : List ℕ) (used : ℕ) (out : List ℕ) → tooLong out ≡ true → refusal 1 out ≡ readBackCall src used out
 readBack-one src used out h =
-    readBack-row src used out 1 (first-applies 1 (badBuffer src used || tooLong out) _ (either-long src used out h)) (λ z. omega (arith, z))
+    readBack-row src used out 1 (long-first src used out _ h) (λ z. omega (arith, z))
 
 pub readBack-checked : (src : List ℕ) (used n k : ℕ) (out : List ℕ) → checkTerm src used ≡ record { number = n; k = k } → (n ≡ 0 → ⊥) → tooLong out ≡ false
     → refusal n out ≡ readBackCall src used out
@@ -116,7 +126,7 @@ six-first {hd} {t} {buf} {used} h l store n more =
 -- SUBSTITUTE
 
 substitute-row : (buf : List ℕ) (used : ℕ) (store : List ℕ) (n : ℕ) → firstRow (substituteRows buf used store) ≡ n → (n ≡ 0 → ⊥) → refusal n buf ≡ substituteCall buf used store
-substitute-row buf used store n e h = sym (substitute-refused buf used store (λ z. h (sym e ∙ z)) ∙ ap (λ m. refusal m buf) e)
+substitute-row buf used store = by-row (substituteRows buf used store) buf (substituteCall buf used store) (substitute-refused buf used store)
 
 pub substitute-checked : (buf : List ℕ) (used n k : ℕ) (store : List ℕ) → checkTerm buf used ≡ record { number = n; k = k } → (n ≡ 0 → ⊥)
     → refusal n buf ≡ substituteCall buf used store

@@ -2,18 +2,18 @@
 use Prim.Native.Nat.{_+_, _<_, ℕ, _≤_}
 use mathlib.Core.Path.{ap, ap₂, refl, sym, _∙_, _≡_}
 use mathlib.Core.Logic.{inl, inr, _↔_, _⊎_}
-use mathlib.Core.Bool.{Bool, false, not, true}
+use mathlib.Core.Bool.{Bool, false, not, true, _||_}
 use mathlib.Core.List.{List, [], _∷_}
 use mathlib.Core.Option.{Option, none, some}
 use borrow.Author.Tests.{le-ltb, leb-false, leb-true, lt-ltb}
 use lib.Dec.{leb}
 use lib.ListN.{length, take}
 use native.Mathlib.Omega.{arith}
-use Rattle.record.specs.Answers.{Wrote, padded}
+use Rattle.record.specs.Answers.{Wrote, checkTermRows, padded}
 use Rattle.record.specs.declared.Header.{Header}
 use Rattle.record.specs.Header.{HeaderFits, contentsAt, encodeProgram, encodeTerm, okOf}
 use Rattle.record.specs.Holding.{ProgramIn, TermIn}
-use Rattle.record.specs.Rows.{badBuffer, badStore, finishedTerm, firstRow, row, theTermOf, tooLong}
+use Rattle.record.specs.Rows.{badBuffer, badStore, finishedTerm, firstRow, openTerm, row, theTermOf, tooLong, unfinished}
 use Rattle.rules.specs.FreeVariables.{Vars, allVars, closed}
 use Rattle.rules.specs.ReadBack.{readBack}
 use Rattle.rules.specs.Substitution.{fromStore, substitute}
@@ -24,9 +24,9 @@ use Rattle.record.proofs.PaddedLaws.{length-padded}
 use Rattle.record.proofs.HeaderLaws.{length-encodeTerm, ok-limit}
 use Rattle.record.proofs.HeldLaws.{not-long, short-buffer, store-good}
 use Rattle.record.proofs.HoldingLaws.{padded-term, program-first, program-header, program-is, store-size, term-first, term-header, term-is, term-k, term-open, term-passes, term-size, term-unfinished}
-use Rattle.record.proofs.RowLaws.{first-applies, first-none, first-skips, isNone-none, isNone-some, none-first, or-false, orElse-some}
+use Rattle.record.proofs.RowLaws.{first-applies, first-none, first-skips, isNone-none, isNone-some, none-first, none-split, or-false, or-right, orElse-some}
 use Rattle.record.proofs.RowMeaningLaws.{ltb-iff}
-use Rattle.record.proofs.WordsLaws.{termSize-substitute}
+use Rattle.record.proofs.SizeLaws.{termSize-substitute}
 use Rattle.rules.proofs.ReadBackLaws.{readBack-translate, translate-readBack}
 use Rattle.rules.proofs.SoundTermLaws.{sound-translate}
 use Rattle.term.specs.Calls.{noSource, numerals, readBackCall, readBackRows, resultCall, resultRows, sourceBytes, sourceOf, substituteCall, substituteRows, substituted, tooShort, translateCall, translateRows, translated}
@@ -93,7 +93,7 @@ pub stored-size : (hd : Header) (t : Term) (buf : List ℕ) (used : ℕ) (store 
     → (substituteCall buf used store) .number ≡ 0 → length store ≡ hd .k
 stored-size hd t buf used store f held z =
     let r = first-none (substituteRows buf used store) refl (sym (substitute-number buf used store) ∙ z) in
-    store-size hd t buf used store f held (r .1 .1 .1 .1 .1 .0)
+    store-size hd t buf used store f held (none-split (checkTermRows buf used) (row 6 (badStore buf used store) ∷ []) r .1 .0)
 
 -- TRANSLATE, of a program in a buffer
 
@@ -102,7 +102,7 @@ module _ {hd : Header} {P : Block} {src : List ℕ} {used : ℕ} (h : ProgramIn 
   translated-is = ap₂ (λ (x : Header) (b : Block). encodeTerm x (translate (x .k) b)) (program-header h) (program-is h l)
 
   translate-first : firstRow (translateRows src used out) ≡ firstRow (row 10 (tooShort out (translated src used)) ∷ [])
-  translate-first = program-first h l (tooLong out) (not-long out lo) (row 10 (tooShort out (translated src used)) ∷ [])
+  translate-first = program-first h l (badBuffer src used || tooLong out) (or-right (badBuffer src used) (tooLong out) (not-long out lo)) (row 10 (tooShort out (translated src used)) ∷ [])
 
   pub translate-fits : length (encodeTerm hd (translate (hd .k) P)) ≤ length out
       → translateCall src used out ≡ record { number = 0; used = length (encodeTerm hd (translate (hd .k) P)); written = padded (length out) (encodeTerm hd (translate (hd .k) P)) }
@@ -134,7 +134,7 @@ module _ {hd : Header} {P : Block} {src : List ℕ} {used : ℕ} (h : ProgramIn 
   -- and the term that stands in the output buffer
   pub translate-holds : (translateCall src used out) .number ≡ 0
       → TermIn allVars hd (translate (hd .k) P) (padded (length out) (encodeTerm hd (translate (hd .k) P))) (length (encodeTerm hd (translate (hd .k) P)))
-  translate-holds z = padded-term allVars hd (translate (hd .k) P) (length out) (h .header) (sound-translate (okOf hd) (ok-limit hd) (hd .k) P (h .variables) (h .literals))
+  translate-holds z = padded-term allVars hd (translate (hd .k) P) (length out) (h .header) (sound-translate (okOf hd) (ok-limit hd) (hd .k) P (h .isProgram .variables) (h .isProgram .literals))
 
   pub translate-length : (translateCall src used out) .number ≡ 0 → length (padded (length out) (encodeTerm hd (translate (hd .k) P))) ≡ length out
   translate-length z = length-padded (length out) (encodeTerm hd (translate (hd .k) P)) (translate-roomy z)
@@ -163,20 +163,18 @@ module _ {S : Vars} {hd : Header} {t : Term} {buf : List ℕ} {used : ℕ} (h : 
   -- the first row of result's that applies is among 7 and 8
   pub result-first : (store : List ℕ) → length store ≡ hd .k → firstRow (resultRows buf used store) ≡ firstRow (row 7 (not (closed t)) ∷ row 8 (not (finishedTerm t)) ∷ [])
   result-first store e =
-      let r = term-passes h l [] tt in
-      let six = store-good buf used store (e ∙ sym (term-k h)) in
-      first-skips 1 _ _ (r .0) ∙ first-skips 2 _ _ (r .1 .0) ∙ first-skips 3 _ _ (r .1 .1 .0) ∙ first-skips 4 _ _ (r .1 .1 .1 .0) ∙ first-skips 5 _ _ (r .1 .1 .1 .1 .0)
-      ∙ first-skips 6 _ _ six
+      term-first h l (badBuffer buf used) refl (row 6 (badStore buf used store) ∷ row 7 (openTerm buf used) ∷ row 8 (unfinished buf used) ∷ [])
+      ∙ first-skips 6 _ _ (store-good buf used store (e ∙ sym (term-k h)))
       ∙ ap₂ (λ a b. firstRow (row 7 a ∷ row 8 b ∷ [])) (term-open h l) (term-unfinished h l)
 
   -- READ BACK
 
-  source-is : sourceOf buf used ≡ readBack (hd .k) t
+  pub source-is : sourceOf buf used ≡ readBack (hd .k) t
   source-is = ap₂ readBack (term-k h) (term-is h l)
 
   module _ (out : List ℕ) (lo : length out ≤ 16384) where
     readBack-first : firstRow (readBackRows buf used out) ≡ firstRow (row 9 (noSource buf used) ∷ row 10 (tooShort out (sourceBytes buf used)) ∷ [])
-    readBack-first = term-first h l (tooLong out) (not-long out lo) (row 9 (noSource buf used) ∷ row 10 (tooShort out (sourceBytes buf used)) ∷ [])
+    readBack-first = term-first h l (badBuffer buf used || tooLong out) (or-right (badBuffer buf used) (tooLong out) (not-long out lo)) (row 9 (noSource buf used) ∷ row 10 (tooShort out (sourceBytes buf used)) ∷ [])
 
     pub readBack-none : readBack (hd .k) t ≡ none → (readBackCall buf used out) .number ≡ 9
     unfolding noSource
@@ -204,6 +202,14 @@ module _ {S : Vars} {hd : Header} {t : Term} {buf : List ℕ} {used : ℕ} (h : 
       readBack-long f =
           readBack-number buf used out ∙ readBack-some
           ∙ first-applies 10 (tooShort out (sourceBytes buf used)) [] (rw sourceBytes-is (short-out out (encodeProgram hd P) f))
+
+      -- accepted only where it fits
+      pub readBack-roomy : (readBackCall buf used out) .number ≡ 0 → length (encodeProgram hd P) ≤ length out
+      readBack-roomy z = go (leb (length (encodeProgram hd P)) (length out)) refl
+        where
+          go : (b : Bool) → leb (length (encodeProgram hd P)) (length out) ≡ b → length (encodeProgram hd P) ≤ length out
+          go true q = leb-true (length (encodeProgram hd P)) (length out) q
+          go false q = absurd (omega (arith, sym (readBack-long (leb-false (length (encodeProgram hd P)) (length out) q)) ∙ z))
 
       readBack-either : (b : Bool) → leb (length (encodeProgram hd P)) (length out) ≡ b
           → ((readBackCall buf used out) .number ≡ 0) ⊎ ((readBackCall buf used out) .number ≡ 10)

@@ -4,24 +4,29 @@ use mathlib.Core.Path.{_≡_}
 use mathlib.Core.Logic.{_↔_, _⊎_}
 use mathlib.Core.Bool.{true}
 use mathlib.Core.List.{List, map}
-use mathlib.Core.Option.{some}
 use lib.ListN.{length, take}
-use Rattle.record.specs.Answers.{padded}
+use Rattle.record.specs.Answers.{Wrote, checkProgram, padded}
 use Rattle.record.specs.declared.Header.{Header}
 use Rattle.record.specs.Header.{encodeProgram, encodeTerm}
-use Rattle.record.specs.Holding.{ProgramIn, TermIn}
-use Rattle.record.specs.Rows.{kOf, termOf}
+use Rattle.record.specs.Holding.{IsProgram, ProgramIn, TermIn}
 use Rattle.rules.specs.FreeVariables.{Free, allVars, noVars}
 use Rattle.rules.specs.Substitution.{fromStore, substitute}
 use Rattle.rules.specs.Syntax.{Atom, Block, Term, num, tuple}
 use Rattle.rules.specs.Translation.{translate}
 use Rattle.term.specs.Calls.{noSource, readBackCall, resultCall, substituteCall, tooShort, translateCall}
 
+-- What read-back answers and leaves where it gives the program P (01 "Translation and read-back"): P's record with zeros behind
+-- it, which the checker accepts.
+pub record GivesBack (h : Header) (P : Block) (out : List ℕ) (w : Wrote) : Type 0 where
+  pub answers : w ≡ record { number = 0; used = length (encodeProgram h P); written = padded (length out) (encodeProgram h P) }
+  pub holds : ProgramIn h P (w .written) (w .used)
+  pub checked : checkProgram (w .written) (w .used) ≡ record { number = 0; k = h .k }
+
 -- What rows 9 and 10 say, and what each call answers where rows 1 to 5 do not apply.
 pub record CallsMean : Type 0 where
   -- ROW 9: no program translates to the term that the record holds
-  pub nine : (src : List ℕ) (used : ℕ) (t : Term) → termOf src used ≡ some t
-      → (noSource src used ≡ true) ↔ ((P : Block) → translate (kOf src used) P ≡ t → ⊥)
+  pub nine : (h : Header) (t : Term) (src : List ℕ) (used : ℕ) → TermIn allVars h t src used → length src ≤ 16384
+      → (noSource src used ≡ true) ↔ ((P : Block) → IsProgram h P → translate (h .k) P ≡ t → ⊥)
   -- ROW 10: the answer is longer than the output buffer
   pub ten : (out answer : List ℕ) → (tooShort out answer ≡ true) ↔ (length out < length answer)
   -- TRANSLATE: the record of the translation, or 10 where it does not fit
@@ -30,20 +35,28 @@ pub record CallsMean : Type 0 where
       → translateCall src used out ≡ record { number = 0; used = length (encodeTerm h (translate (h .k) P)); written = padded (length out) (encodeTerm h (translate (h .k) P)) }
   pub translatesNot : (h : Header) (P : Block) (src : List ℕ) (used : ℕ) (out : List ℕ) → ProgramIn h P src used → length src ≤ 16384 → length out ≤ 16384
       → length out < length (encodeTerm h (translate (h .k) P)) → (translateCall src used out) .number ≡ 10
-  -- READ BACK: 0 or 10 exactly where some program translates to the term; with room enough that program, and else 10
+  -- READ BACK: 0 or 10 exactly where some program translates to the term, and 9 exactly where none does
   pub readsBack : (h : Header) (t : Term) (src : List ℕ) (used : ℕ) (out : List ℕ) → TermIn allVars h t src used → length src ≤ 16384 → length out ≤ 16384
-      → (((readBackCall src used out) .number ≡ 0) ⊎ ((readBackCall src used out) .number ≡ 10)) ↔ ((P : Block) × (translate (h .k) P ≡ t))
+      → (((readBackCall src used out) .number ≡ 0) ⊎ ((readBackCall src used out) .number ≡ 10)) ↔ ((P : Block) × IsProgram h P × (translate (h .k) P ≡ t))
   pub readsBackNot : (h : Header) (t : Term) (src : List ℕ) (used : ℕ) (out : List ℕ) → TermIn allVars h t src used → length src ≤ 16384 → length out ≤ 16384
-      → ((readBackCall src used out) .number ≡ 9) ↔ ((P : Block) → translate (h .k) P ≡ t → ⊥)
+      → ((readBackCall src used out) .number ≡ 9) ↔ ((P : Block) → IsProgram h P → translate (h .k) P ≡ t → ⊥)
+  -- with a buffer as long as the term's own record, which is always enough, 0 exactly where some program translates to it
+  pub readsBackRoomy : (h : Header) (t : Term) (src : List ℕ) (used : ℕ) (out : List ℕ) → TermIn allVars h t src used → length src ≤ 16384 → length out ≤ 16384 → used ≤ length out
+      → ((readBackCall src used out) .number ≡ 0) ↔ ((P : Block) × IsProgram h P × (translate (h .k) P ≡ t))
+  -- with room enough it gives that program, and else 10
   pub givesBack : (h : Header) (P : Block) (src : List ℕ) (used : ℕ) (out : List ℕ) → TermIn allVars h (translate (h .k) P) src used → length src ≤ 16384 → length out ≤ 16384
-      → length (encodeProgram h P) ≤ length out
-      → readBackCall src used out ≡ record { number = 0; used = length (encodeProgram h P); written = padded (length out) (encodeProgram h P) }
+      → length (encodeProgram h P) ≤ length out → GivesBack h P out (readBackCall src used out)
   pub givesBackNot : (h : Header) (P : Block) (src : List ℕ) (used : ℕ) (out : List ℕ) → TermIn allVars h (translate (h .k) P) src used → length src ≤ 16384 → length out ≤ 16384
       → length out < length (encodeProgram h P) → (readBackCall src used out) .number ≡ 10
-  -- translated and read back: the same bytes
+  -- the program is never longer than its term
+  pub noLonger : (h : Header) (P : Block) (src : List ℕ) (used : ℕ) → TermIn allVars h (translate (h .k) P) src used → length (encodeProgram h P) ≤ used
+  -- translated and read back: the same bytes; and read back and translated
   pub roundTrip : (h : Header) (P : Block) (src : List ℕ) (used : ℕ) (out back : List ℕ) → ProgramIn h P src used → length src ≤ 16384 → length out ≤ 16384
       → length back ≤ 16384 → used ≤ length back → (translateCall src used out) .number ≡ 0
       → readBackCall ((translateCall src used out) .written) ((translateCall src used out) .used) back ≡ record { number = 0; used = used; written = padded (length back) (take used src) }
+  pub roundTripBack : (h : Header) (t : Term) (src : List ℕ) (used : ℕ) (out back : List ℕ) → TermIn allVars h t src used → length src ≤ 16384 → length out ≤ 16384
+      → length back ≤ 16384 → used ≤ length back → (readBackCall src used out) .number ≡ 0
+      → translateCall ((readBackCall src used out) .written) ((readBackCall src used out) .used) back ≡ record { number = 0; used = used; written = padded (length back) (take used src) }
   -- SUBSTITUTE: the term with the store substituted; no length changes
   pub substitutes : (h : Header) (t : Term) (buf : List ℕ) (used : ℕ) (store : List ℕ) → TermIn allVars h t buf used → length buf ≤ 16384 → length store ≡ h .k
       → substituteCall buf used store ≡ record { number = 0; used = used; written = padded (length buf) (encodeTerm h (substitute (fromStore store) t)) }

@@ -1,5 +1,9 @@
 // The calls on terms. Each checks its whole input (rows 1 to 5) and then does its work in a function of its own, which asks for
 // what the check has made sure of.
+ghost use mathlib.Core.Path.{_≡_};
+ghost use Prim.Native.Nat.{_≤_};
+ghost use Rattle.term.specs.Answer.{refusedWith, wroteBytes};
+
 pub mod read_back;
 pub mod result;
 pub mod substitute;
@@ -10,4 +14,21 @@ pub mod translate;
 pub struct Written {
     pub number: u32,
     pub used: u32,
+}
+
+fn refused(number: u32) -> Written
+    ensures { λ r. ⌜ r ≡ refusedWith number ⌝ }
+{
+    Written { number, used: 0 }
+}
+
+// A used length fits a u32, for no buffer is longer than 16,384 bytes.
+fn wrote(used: usize) -> Written
+    requires { ⌜ used ≤ 16384 ⌝ }
+    ensures { λ r. ⌜ r ≡ wroteBytes used ⌝ }
+{
+    Written {
+        number: 0,
+        used: used as u32,
+    }
 }

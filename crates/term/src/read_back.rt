@@ -1,10 +1,15 @@
 // The call read back: the program of a term that is a translation, into another buffer (01 "Translation and read-back").
 use super::Written;
+use super::refused;
+use super::wrote;
 use checker::too_long;
 use readback::source_size;
 use readback::write_source;
 use recognition::is_translation;
 use record::Header;
+use record::refusal::BAD_BUFFER;
+use record::refusal::NO_PROGRAM;
+use record::refusal::OUTPUT_TOO_SHORT;
 use term_checker::check_term;
 ghost use mathlib.Core.Path.{_≡_};
 ghost use Prim.Native.Nat.{_≤_};
@@ -21,20 +26,14 @@ fn read_back_checked(src: &[u8], used: usize, h: Header, out: &mut [u8]) -> Writ
     ensures { λ r. ⌜ asWrote r (now (out .exit)) ≡ readBackCall (now (src .entry)) used (now (out .entry)) ⌝ }
 {
     if !is_translation(src, used, h) {
-        return Written { number: 9, used: 0 };
+        return refused(NO_PROGRAM);
     }
     let n = source_size(src, used, h);
     if out.len() < n {
-        return Written {
-            number: 10,
-            used: 0,
-        };
+        return refused(OUTPUT_TOO_SHORT);
     }
     write_source(src, used, h, out);
-    Written {
-        number: 0,
-        used: n as u32,
-    }
+    wrote(n)
 }
 
 // Row 1 looks at both buffers before row 2 looks at the source.
@@ -42,14 +41,11 @@ pub fn read_back(src: &[u8], used: usize, out: &mut [u8]) -> Written
     ensures { λ r. ⌜ asWrote r (now (out .exit)) ≡ readBackCall (now (src .entry)) used (now (out .entry)) ⌝ }
 {
     if too_long(out.len()) {
-        return Written { number: 1, used: 0 };
+        return refused(BAD_BUFFER);
     }
     let checked = check_term(src, used);
     if checked.number != 0 {
-        return Written {
-            number: checked.number,
-            used: 0,
-        };
+        return refused(checked.number);
     }
     let h = record::read_header(src);
     read_back_checked(src, used, h, out)

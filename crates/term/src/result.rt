@@ -1,8 +1,11 @@
 // The call result: the values of a finished term into a store (01 "Result and weighing").
-use filling::closed::is_closed;
 use numerals::copy_numerals;
 use numerals::is_finished;
 use record::Header;
+use record::refusal::BAD_STORE;
+use record::refusal::FREE_VARIABLE;
+use record::refusal::UNFINISHED;
+use substitution::closed::is_closed;
 use term_checker::check_term;
 ghost use mathlib.Core.Path.{_≡_};
 ghost use Prim.Native.Nat.{_≤_};
@@ -17,13 +20,13 @@ fn result_checked(buf: &[u8], used: usize, h: Header, store: &mut [u32]) -> u32
     ensures { λ r. ⌜ (r ≡ (resultCall (now (buf .entry)) used (now (store .entry))) .number) × (now (store .exit) ≡ (resultCall (now (buf .entry)) used (now (store .entry))) .store) ⌝ }
 {
     if store.len() != h.k as usize {
-        return 6;
+        return BAD_STORE;
     }
     if !is_closed(buf, used, h) {
-        return 7;
+        return FREE_VARIABLE;
     }
     if !is_finished(buf, used, h) {
-        return 8;
+        return UNFINISHED;
     }
     copy_numerals(buf, used, h, store);
     0

@@ -1,7 +1,10 @@
 // The call substitute: a store's values for the free variables of a term, in place (01 "Filling").
 use super::Written;
-use filling::substitution::substitute_record;
+use super::refused;
+use super::wrote;
 use record::Header;
+use record::refusal::BAD_STORE;
+use substitution::substitute::substitute_record;
 use term_checker::check_term;
 ghost use mathlib.Core.Path.{_≡_};
 ghost use Prim.Native.Nat.{_≤_};
@@ -18,13 +21,10 @@ fn substitute_checked(buf: &mut [u8], used: usize, h: Header, store: &[u32]) -> 
     ensures { λ r. ⌜ asWrote r (now (buf .exit)) ≡ substituteCall (now (buf .entry)) used (now (store .entry)) ⌝ }
 {
     if store.len() != h.k as usize {
-        return Written { number: 6, used: 0 };
+        return refused(BAD_STORE);
     }
     substitute_record(buf, used, h, store);
-    Written {
-        number: 0,
-        used: used as u32,
-    }
+    wrote(used)
 }
 
 pub fn substitute(buf: &mut [u8], used: usize, store: &[u32]) -> Written
@@ -32,10 +32,7 @@ pub fn substitute(buf: &mut [u8], used: usize, store: &[u32]) -> Written
 {
     let checked = check_term(buf, used);
     if checked.number != 0 {
-        return Written {
-            number: checked.number,
-            used: 0,
-        };
+        return refused(checked.number);
     }
     let h = record::read_header(buf);
     substitute_checked(buf, used, h, store)

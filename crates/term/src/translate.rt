@@ -1,8 +1,12 @@
 // The call translate: a program's term into another buffer (01 "Translation and read-back").
 use super::Written;
+use super::refused;
+use super::wrote;
 use checker::too_long;
 use program_checker::check_program;
 use record::Header;
+use record::refusal::BAD_BUFFER;
+use record::refusal::OUTPUT_TOO_SHORT;
 use translator::translation_size;
 use translator::write_translation;
 ghost use mathlib.Core.Path.{_≡_};
@@ -20,16 +24,10 @@ fn translate_checked(src: &[u8], used: usize, h: Header, out: &mut [u8]) -> Writ
 {
     let n = translation_size(src, used, h);
     if out.len() < n {
-        return Written {
-            number: 10,
-            used: 0,
-        };
+        return refused(OUTPUT_TOO_SHORT);
     }
     write_translation(src, used, h, out);
-    Written {
-        number: 0,
-        used: n as u32,
-    }
+    wrote(n)
 }
 
 // Row 1 looks at both buffers before row 2 looks at the source.
@@ -37,14 +35,11 @@ pub fn translate(src: &[u8], used: usize, out: &mut [u8]) -> Written
     ensures { λ r. ⌜ asWrote r (now (out .exit)) ≡ translateCall (now (src .entry)) used (now (out .entry)) ⌝ }
 {
     if too_long(out.len()) {
-        return Written { number: 1, used: 0 };
+        return refused(BAD_BUFFER);
     }
     let checked = check_program(src, used);
     if checked.number != 0 {
-        return Written {
-            number: checked.number,
-            used: 0,
-        };
+        return refused(checked.number);
     }
     let h = record::read_header(src);
     translate_checked(src, used, h, out)

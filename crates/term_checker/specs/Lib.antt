@@ -1,2 +1,2 @@
-pub mod TermKind
+pub mod RecordAt
 pub mod TermVerdict

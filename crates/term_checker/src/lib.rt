@@ -1,18 +1,20 @@
-// The check of a term. Every function judges all of the slice that it is lent, so that what follows a part is never read as
-// a piece of it.
+// The check of a term. A term is judged by all of the slice that it is lent, so that what follows a part is never read as a
+// piece of it; the records inside it are read where they stand, by a record reader that goes on from one to the next.
+ghost use Prim.Native.Nat.{_-_, _≤_};
 ghost use mathlib.Core.Bool.{false};
 ghost use mathlib.Core.Path.{_≡_};
+ghost use lib.ListN.{length};
+ghost use Rattle.buffer.specs.Slice.{part};
 ghost use Rattle.rules.specs.Scope.{atomInRange, atomsInRange, simpleInRange};
 ghost use Rattle.record.specs.Alone.{recordKind, onlySimple, onlyTuple};
 ghost use Rattle.record.specs.Header.{termIn};
-ghost use Rattle.record.specs.Term.{onlyAtom, decodeAtoms};
+ghost use Rattle.record.specs.Term.{decodeAtoms, onlyAtom};
 ghost use Rattle.record.specs.Answers.{checkTerm};
 ghost use Rattle.record.specs.Rows.{badBuffer};
 ghost use Rattle.checker.specs.Answer.{asChecked};
 ghost use Rattle.checker.specs.Verdict.{verdict};
-ghost use Rattle.term_checker.specs.TermKind.{termKind};
 ghost use Rattle.term_checker.specs.TermVerdict.{OpensTerm, termVerdict};
-use buffer::get_u16;
+ghost use Rattle.term_checker.specs.RecordAt.{recordAt};
 use buffer::get_u32;
 use checker::Checked;
 use checker::Verdict;
@@ -22,6 +24,7 @@ use checker::check_header;
 use checker::check_variable;
 use checker::number_of;
 use checker::worst;
+use reader::Head;
 use record::Sort;
 use record::kind::LET_ALL;
 use record::kind::LET_ONE;
@@ -31,6 +34,7 @@ use record::kind::REC;
 use record::kind::REFERENCE;
 use record::kind::SUCC;
 use record::kind::TUPLE;
+use record::refusal::BAD_BUFFER;
 
 // What a term's head leaves to check.
 pub enum Opened {
@@ -42,137 +46,157 @@ pub enum Opened {
     Two(usize),
 }
 
-// The kind of the one record that s is; 0, which is no kind, where it is not one record.
-fn record_kind(s: &[u8]) -> usize
-    ensures { λ r. ⌜ r ≡ recordKind (now (s .entry)) ⌝ }
+// The atom at a place. Its kind tells it from every other record, so the class is not asked.
+fn check_atom(s: &[u8], at: usize, k: u32) -> Verdict
+    ensures { λ r. ⌜ r ≡ verdict (atomInRange k) (onlyAtom (recordAt (now (s .entry)) at)) ⌝ }
 {
-    if s.len() < 4 {
-        return 0;
-    }
-    if get_u16(s, 0) != s.len() {
-        return 0;
-    }
-    get_u16(s, 2)
-}
-
-// The class decides, then each function looks for its kinds: the kind of the one term's record that s is; 0, which is no kind,
-// where it is not one record, or one of another class.
-fn term_kind(s: &[u8]) -> usize
-    ensures { λ r. ⌜ r ≡ termKind (now (s .entry)) ⌝ }
-{
-    let kind = record_kind(s);
-    match record::class_of(kind) {
-        record::Class::Term => kind,
-        record::Class::Program => 0,
-        record::Class::Expression => 0,
-        record::Class::Malformed => 0,
+    match reader::head_at(s, at) {
+        Head::Record(length, kind) => {
+            if length != 8 {
+                return Verdict::Malformed;
+            }
+            match kind {
+                NUMERAL => Verdict::Good,
+                REFERENCE => check_variable(get_u32(s, at + 4), k),
+                _ => Verdict::Malformed,
+            }
+        }
+        Head::End => Verdict::Malformed,
+        Head::Short => Verdict::Malformed,
     }
 }
 
-fn check_atom(s: &[u8], k: u32) -> Verdict
-    ensures { λ r. ⌜ r ≡ verdict (atomInRange k) (onlyAtom (now (s .entry))) ⌝ }
+// The contents of a tuple: the atoms from a place up to an end. The length is that of k atoms. Behind an atom that is malformed
+// the reader may stand anywhere, so the walk ends there.
+fn check_atoms(s: &[u8], at: usize, end: usize, k: u32) -> Verdict
+    requires { ⌜ (at ≤ end) × (end ≤ length (now s)) ⌝ }
+    ensures { λ r. ⌜ r ≡ verdict (atomsInRange k) (decodeAtoms k (part (now (s .entry)) at (end - at))) ⌝ }
 {
-    if s.len() != 8 {
-        return Verdict::Malformed;
-    }
-    let kind = term_kind(s);
-    match kind {
-        NUMERAL => Verdict::Good,
-        REFERENCE => check_variable(get_u32(s, 4), k),
-        _ => Verdict::Malformed,
-    }
-}
-
-// The length is that of k atoms, so as many turns are taken as there are atoms.
-fn check_atoms(s: &[u8], k: u32) -> Verdict
-    ensures { λ r. ⌜ r ≡ verdict (atomsInRange k) (decodeAtoms k (now (s .entry))) ⌝ }
-{
-    if s.len() != 8 * (k as usize) {
+    if end - at != 8 * (k as usize) {
         return Verdict::Malformed;
     }
     let mut found = Verdict::Good;
-    let mut left = s;
-    while 0 < left.len() {
-        found = worst(found, check_atom(&left[..8], k));
-        left = &left[8..];
+    let mut place = at;
+    while place < end {
+        match check_atom(s, place, k) {
+            Verdict::Good => {}
+            Verdict::Outside => {
+                found = worst(found, Verdict::Outside);
+            }
+            Verdict::Malformed => {
+                return Verdict::Malformed;
+            }
+        }
+        place = reader::after(s, place);
     }
     found
 }
 
-fn check_tuple(s: &[u8], k: u32) -> Verdict
-    ensures { λ r. ⌜ r ≡ verdict (atomsInRange k) (onlyTuple k (now (s .entry))) ⌝ }
+// The tuple at a place.
+fn check_tuple(s: &[u8], at: usize, k: u32) -> Verdict
+    ensures { λ r. ⌜ r ≡ verdict (atomsInRange k) (onlyTuple k (recordAt (now (s .entry)) at)) ⌝ }
 {
-    if term_kind(s) != TUPLE {
-        return Verdict::Malformed;
-    }
-    check_atoms(&s[4..], k)
-}
-
-// What a let-one binds.
-fn check_simple(s: &[u8], k: u32) -> Verdict
-    ensures { λ r. ⌜ r ≡ verdict (simpleInRange k) (onlySimple (now (s .entry))) ⌝ }
-{
-    let kind = term_kind(s);
-    match kind {
-        SUCC..=PRED => check_atom(&s[4..], k),
-        _ => check_atom(s, k),
+    match reader::head_at(s, at) {
+        Head::Record(_, kind) => {
+            if kind != TUPLE {
+                return Verdict::Malformed;
+            }
+            check_atoms(s, at + 4, reader::after(s, at), k)
+        }
+        Head::End => Verdict::Malformed,
+        Head::Short => Verdict::Malformed,
     }
 }
 
+// What a let-one binds, at a place. The atom inside a succ or pred ends where that ends.
+fn check_simple(s: &[u8], at: usize, k: u32) -> Verdict
+    ensures { λ r. ⌜ r ≡ verdict (simpleInRange k) (onlySimple (recordAt (now (s .entry)) at)) ⌝ }
+{
+    match reader::head_at(s, at) {
+        Head::Record(_, kind) => match kind {
+            SUCC..=PRED => {
+                if reader::after(s, at + 4) != reader::after(s, at) {
+                    return Verdict::Malformed;
+                }
+                check_atom(s, at + 4, k)
+            }
+            _ => check_atom(s, at, k),
+        },
+        Head::End => Verdict::Malformed,
+        Head::Short => Verdict::Malformed,
+    }
+}
+
+// Where nothing stands behind the variable the reader does not go on.
 fn open_let_one(s: &[u8], k: u32) -> Opened
     requires { ⌜ recordKind (now s) ≡ 37 ⌝ }
     ensures { λ r. ⌜ OpensTerm k (now (s .entry)) r ⌝ }
 {
-    if s.len() < 12 {
+    let last = reader::after(s, 8);
+    if last == 8 {
         return Opened::Whole(Verdict::Malformed);
     }
-    let last = 8 + get_u16(s, 8);
-    if s.len() < last {
-        return Opened::Whole(Verdict::Malformed);
-    }
-    let bound = worst(
-        check_variable(get_u32(s, 4), k),
-        check_simple(&s[8..last], k),
-    );
+    let bound = worst(check_variable(get_u32(s, 4), k), check_simple(s, 8, k));
     Opened::Last(bound, last)
 }
 
+// Where no record stands first, the first term is no bytes at all, and so malformed.
 fn open_let_all(s: &[u8], k: u32) -> Opened
     requires { ⌜ recordKind (now s) ≡ 38 ⌝ }
     ensures { λ r. ⌜ OpensTerm k (now (s .entry)) r ⌝ }
 {
-    if s.len() < 8 {
-        return Opened::Whole(Verdict::Malformed);
-    }
-    let second = 4 + get_u16(s, 4);
-    if s.len() < second {
-        return Opened::Whole(Verdict::Malformed);
-    }
-    Opened::Two(second)
+    Opened::Two(reader::after(s, 4))
 }
 
+// Behind the variable stands an atom, of 8 bytes, and behind that a tuple.
 fn open_rec(s: &[u8], k: u32) -> Opened
     requires { ⌜ recordKind (now s) ≡ 39 ⌝ }
     ensures { λ r. ⌜ OpensTerm k (now (s .entry)) r ⌝ }
 {
-    let last = 20 + 8 * (k as usize);
-    if s.len() < last {
+    let start = reader::after(s, 8);
+    if start != 16 {
         return Opened::Whole(Verdict::Malformed);
     }
-    let count = worst(check_variable(get_u32(s, 4), k), check_atom(&s[8..16], k));
-    Opened::Last(worst(count, check_tuple(&s[16..last], k)), last)
+    let last = reader::after(s, start);
+    if last == start {
+        return Opened::Whole(Verdict::Malformed);
+    }
+    let count = worst(check_variable(get_u32(s, 4), k), check_atom(s, 8, k));
+    Opened::Last(worst(count, check_tuple(s, start, k)), last)
 }
 
+// The class decides, then the kind: any record of a term may stand here.
+fn open_kind(s: &[u8], kind: usize, k: u32) -> Opened
+    requires { ⌜ recordKind (now s) ≡ kind ⌝ }
+    ensures { λ r. ⌜ OpensTerm k (now (s .entry)) r ⌝ }
+{
+    match record::class_of(kind) {
+        record::Class::Term => match kind {
+            TUPLE => Opened::Whole(check_tuple(s, 0, k)),
+            LET_ONE => open_let_one(s, k),
+            LET_ALL => open_let_all(s, k),
+            REC => open_rec(s, k),
+            _ => Opened::Whole(Verdict::Malformed),
+        },
+        record::Class::Program => Opened::Whole(Verdict::Malformed),
+        record::Class::Expression => Opened::Whole(Verdict::Malformed),
+        record::Class::Malformed => Opened::Whole(Verdict::Malformed),
+    }
+}
+
+// A term is one record, and nothing after it.
 fn open_term(s: &[u8], k: u32) -> Opened
     ensures { λ r. ⌜ OpensTerm k (now (s .entry)) r ⌝ }
 {
-    let kind = term_kind(s);
-    match kind {
-        TUPLE => Opened::Whole(check_atoms(&s[4..], k)),
-        LET_ONE => open_let_one(s, k),
-        LET_ALL => open_let_all(s, k),
-        REC => open_rec(s, k),
-        _ => Opened::Whole(Verdict::Malformed),
+    match reader::head_at(s, 0) {
+        Head::Record(length, kind) => {
+            if length != s.len() {
+                return Opened::Whole(Verdict::Malformed);
+            }
+            open_kind(s, kind, k)
+        }
+        Head::End => Opened::Whole(Verdict::Malformed),
+        Head::Short => Opened::Whole(Verdict::Malformed),
     }
 }
 
@@ -222,7 +246,7 @@ pub fn check_term(buf: &[u8], used: usize) -> Checked
     ensures { λ r. ⌜ asChecked r ≡ checkTerm (now (buf .entry)) used ⌝ }
 {
     if bad_buffer(buf, used) {
-        return answer(1, 0);
+        return answer(BAD_BUFFER, 0);
     }
     check_record(buf, used)
 }

@@ -5,13 +5,12 @@ use mathlib.Core.List.{_++_, List, append-assoc}
 use lib.ListN.{length}
 use native.Mathlib.Omega.{arith}
 use Rattle.buffer.specs.LittleEndian.{le}
-use Rattle.rules.specs.Syntax.{Block, Bound, Expr, Term, assign, empty, loop, nest, rec}
+use Rattle.rules.specs.Syntax.{Block, Bound, Expr, Term, append, assign, empty, loop, nest, rec}
 use Rattle.rules.specs.Translation.{all, atomOf, simpleOf, translate}
 use Rattle.record.specs.Program.{blockSize}
 use Rattle.record.specs.Term.{encodeAtom, encodeSimple, encodeTermRecord, simpleSize, termSize}
 use Rattle.record.proofs.HeaderLaws.{length-encodeTermRecord}
 use Rattle.place.specs.Heads.{recordHead}
-use Rattle.place.specs.ProgramView.{append}
 use Rattle.place.proofs.ProgramBytesLaws.{blockSize-assign, blockSize-empty, blockSize-loop, blockSize-nest}
 use Rattle.place.proofs.TermBytesLaws.{encodeTermRecord-letAll, encodeTermRecord-letOne, encodeTermRecord-rec, termSize-letAll, termSize-letOne, termSize-rec, termSize-tuple}
 use Rattle.place.proofs.TranslatedLaws.{simple-most}

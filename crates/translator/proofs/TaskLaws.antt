@@ -10,10 +10,11 @@ use native.Mathlib.Omega.{arith}
 use Rattle.buffer.specs.Slice.{put}
 use Rattle.buffer.proofs.SliceLaws.{put-put, put-put-front}
 use Rattle.rules.specs.Syntax.{Block}
+use Rattle.record.specs.Front.{u16}
 use Rattle.record.specs.Program.{blockSize}
 use Rattle.place.proofs.ProgramViewLaws.{block-index}
 use Rattle.translator.specs.RowTranslation.{RowAt, allBytes, rowBytes, rowSize}
-use Rattle.translator.specs.TranslationHeads.{letAllHead, letAllSize, letOneHead, letOneSize, opening, u16At}
+use Rattle.translator.specs.TranslationHeads.{letAllHead, letAllSize, letOneHead, letOneSize, opening}
 use Rattle.translator.specs.TranslationTasks.{Left, PartsOf, TaskIn, cutAt, pastHeads}
 use Rattle.translator.specs.declared.Parts.{Parts}
 use Rattle.translator.specs.declared.Task.{Task}
@@ -47,7 +48,7 @@ pub letAllSize-nest : (k kind : ℕ) → (kind ≡ 3 → ⊥) → letAllSize k (
 unfolding letAllSize
 letAllSize-nest k kind h = rw (ne-eqb kind 3 h) refl
 
-module _ (k : ℕ) (src : List ℕ) (t : Task) (kind f s : ℕ) (read : kind ≡ u16At src (t .from + 2)) where
+module _ (k : ℕ) (src : List ℕ) (t : Task) (kind f s : ℕ) (read : kind ≡ u16 src (t .from + 2)) where
   past-is : f ≡ t .from + opening (eqb kind 3) → s ≡ t .start + letAllSize k (eqb kind 3)
       → _≡_ {A = Task} (record { from = f; to = t .to; start = s; stop = t .stop }) (pastHeads k src t)
   past-is e d = rw (← read) (ap₂ (λ (x y : ℕ). record { from = x; to = t .to; start = y; stop = t .stop }) e d)
@@ -62,11 +63,11 @@ module _ (k : ℕ) (src : List ℕ) (t : Task) (kind f s : ℕ) (read : kind ≡
 
 -- there is room for the heads
 module _ {k : ℕ} {src : List ℕ} {t : Task} (h : TaskIn k src t) (some : t .from < t .to) where
-  pub loop-room : u16At src (t .from + 2) ≡ 3 → (t .from + 20 ≤ length src) × (t .start + (24 + 8 * k) ≤ t .stop)
+  pub loop-room : u16 src (t .from + 2) ≡ 3 → (t .from + 20 ≤ length src) × (t .start + (24 + 8 * k) ≤ t .stop)
   loop-room three =
       let o = row-open (h .row) some k (λ e. omega arith) in (
-        omega (arith, o .order, o .reach, row-room (h .row), opening-loop (u16At src (t .from + 2)) three),
-        omega (arith, o .size, h .region, letAllSize-loop k (u16At src (t .from + 2)) three),
+        omega (arith, o .order, o .reach, row-room (h .row), opening-loop (u16 src (t .from + 2)) three),
+        omega (arith, o .size, h .region, letAllSize-loop k (u16 src (t .from + 2)) three),
       )
 
   pub head-room : (t .from + 4 ≤ length src) × (t .start + 4 ≤ t .stop)
@@ -74,17 +75,17 @@ module _ {k : ℕ} {src : List ℕ} {t : Task} (h : TaskIn k src t) (some : t .f
 
 -- THE PARTS OF A LET-ALL
 
-module _ {k : ℕ} {src : List ℕ} {whole : Task} (h : TaskIn k src whole) (some : whole .from < whole .to) (two : u16At src (whole .from + 2) ≡ 2 → ⊥) where
+module _ {k : ℕ} {src : List ℕ} {whole : Task} (h : TaskIn k src whole) (some : whole .from < whole .to) (two : u16 src (whole .from + 2) ≡ 2 → ⊥) where
   pub rows : Opened k src (whole .from) (whole .to) (h .row .block)
   rows = row-open (h .row) some k two
 
-  pub parts : (mid : ℕ) → whole .start + letAllSize k (eqb (u16At src (whole .from + 2)) 3) + rowSize k (rows .inner .block) ≡ mid
-      → PartsOf k src whole (h .row .block) (cutAt (pastHeads k src whole) (whole .from + u16At src (whole .from)) mid)
+  pub parts : (mid : ℕ) → whole .start + letAllSize k (eqb (u16 src (whole .from + 2)) 3) + rowSize k (rows .inner .block) ≡ mid
+      → PartsOf k src whole (h .row .block) (cutAt (pastHeads k src whole) (whole .from + u16 src (whole .from)) mid)
   parts mid e =
       let r = h .region in
       let s = rows .size in
       let n : rowSize k (h .row .block) ≡ whole .stop - whole .start = omega arith in
-      let m : rowSize k (rows .inner .block) ≡ mid - (whole .start + letAllSize k (eqb (u16At src (whole .from + 2)) 3)) = omega arith in
+      let m : rowSize k (rows .inner .block) ≡ mid - (whole .start + letAllSize k (eqb (u16 src (whole .from + 2)) 3)) = omega arith in
       record {
         opens = record { task = h; some = some; start = refl; order = omega arith; fits = omega arith };
         inner = record { row = rows .inner; few = h .few; region = e };
@@ -98,7 +99,7 @@ module _ {k : ℕ} {src : List ℕ} {whole : Task} (h : TaskIn k src whole) (som
       }
 
   -- what the code makes of the numbers it reads: the heads passed, and the length n of the command
-  module _ (inner : Task) (n : ℕ) (past : inner ≡ pastHeads k src whole) (read : n ≡ u16At src (whole .from)) where
+  module _ (inner : Task) (n : ℕ) (past : inner ≡ pastHeads k src whole) (read : n ≡ u16 src (whole .from)) where
     abbrev pub inner-row : RowAt src (inner .from) (whole .from + n)
     inner-row = row-index (rows .inner) (sym (ap (λ (t : Task). t .from) past)) (ap (λ (y : ℕ). whole .from + y) (sym read))
 
@@ -113,7 +114,7 @@ module _ {k : ℕ} {src : List ℕ} {whole : Task} (h : TaskIn k src whole) (som
 
     parts-cut : (mid : ℕ) (r : Parts) → inner .start + rowSize k (rows .inner .block) ≡ mid → r ≡ cutAt inner (whole .from + n) mid → PartsOf k src whole (h .row .block) r
     parts-cut mid r e d =
-        let c : r ≡ cutAt (pastHeads k src whole) (whole .from + u16At src (whole .from)) mid =
+        let c : r ≡ cutAt (pastHeads k src whole) (whole .from + u16 src (whole .from)) mid =
         d ∙ ap₂ (λ (t : Task) (y : ℕ). cutAt t (whole .from + y) mid) past read in
         subst (PartsOf k src whole (h .row .block)) (sym c) (parts mid (omega (arith, ap (λ (t : Task). t .start) past)))
 
@@ -140,15 +141,15 @@ module _ {k : ℕ} {src : List ℕ} {whole : Task} {b : Block} {out₀ out : Lis
   end-room = omega (arith, rowSize-least k (s .task .row .block), s .task .region, s .fits)
 
   -- a let-one's head is written
-  module _ (some : left .from < left .to) (two : u16At src (left .from + 2) ≡ 2) where
+  module _ (some : left .from < left .to) (two : u16 src (left .from + 2) ≡ 2) where
     pub one-room : (left .from + 16 ≤ length src) × (left .start + 20 ≤ length out)
     one-room =
         let a = row-assign (s .task .row) some k two in
-        let n = letOneSize-least (ltb (u16At src (left .from + 10)) 18) in
+        let n = letOneSize-least (ltb (u16 src (left .from + 10)) 18) in
         (omega (arith, a .reach, row-room (s .task .row)), omega (arith, a .size, rowSize-least k (a .rest .block), s .task .region, s .fits))
 
     pub left-one : (out₁ : List ℕ) (from start : ℕ) → out₁ ≡ put out (left .start) (letOneHead src (left .from) (left .stop - left .start)) → length out₁ ≡ length out
-        → from ≡ left .from + 16 → start ≡ left .start + letOneSize (ltb (u16At src (left .from + 10)) 18)
+        → from ≡ left .from + 16 → start ≡ left .start + letOneSize (ltb (u16 src (left .from + 10)) 18)
         → Left k src whole b out₀ out₁ (record { from = from; to = left .to; start = start; stop = left .stop })
     left-one out₁ from start e n ef es =
         let a = row-assign (s .task .row) some k two in

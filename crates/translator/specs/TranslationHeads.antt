@@ -3,24 +3,16 @@ use Prim.Native.Nat.{_*_, _+_, ℕ}
 use mathlib.Core.Bool.{Bool, false, true}
 use mathlib.Core.List.{_++_, List}
 use lib.Dec.{eqb, ltb}
-use Rattle.buffer.specs.LittleEndian.{le, val}
-use Rattle.buffer.specs.Slice.{part}
+use Rattle.buffer.specs.LittleEndian.{le}
+use Rattle.record.specs.Front.{u16, u32}
 use Rattle.place.specs.Edit.{lead, leafBytes}
 use Rattle.place.specs.Heads.{recordHead}
 use Rattle.translator.specs.RowTranslation.{allBytes}
 
--- The number in the 2 bytes at index p.
-abbrev pub u16At : List ℕ → ℕ → ℕ
-u16At l p = val (part l p 2)
-
--- The number in the 4 bytes at index p.
-abbrev pub u32At : List ℕ → ℕ → ℕ
-u32At l p = val (part l p 4)
-
 -- What a let-one of an atom, or a rec, of n bytes begins with, of an assignment or a loop: the atom's kind is 16 higher in a
 -- term.
 unfoldable pub leadOf : ℕ → ℕ → List ℕ → ℕ → List ℕ
-leadOf kind n l p = lead kind n (u32At l (p + 4)) (u16At l (p + 10) + 16) (u32At l (p + 12))
+leadOf kind n l p = lead kind n (u32 l (p + 4)) (u16 l (p + 10) + 16) (u32 l (p + 12))
 
 -- An assignment, by whether its expression is a literal or a variable: how many bytes a let-one has before its last term.
 unfoldable pub letOneSize : Bool → ℕ
@@ -30,11 +22,11 @@ letOneSize false = 20
 -- A let-one of n bytes before its last term, by whether it binds an atom; else it binds succ or pred of one.
 unfoldable pub letOneHeadIf : Bool → List ℕ → ℕ → ℕ → List ℕ
 letOneHeadIf true l p n = leadOf 37 n l p
-letOneHeadIf false l p n = recordHead 37 n ++ (le 4 (u32At l (p + 4)) ++ (recordHead (u16At l (p + 10) + 16) 12 ++ leafBytes 33 (u32At l (p + 12))))
+letOneHeadIf false l p n = recordHead 37 n ++ (le 4 (u32 l (p + 4)) ++ (recordHead (u16 l (p + 10) + 16) 12 ++ leafBytes 33 (u32 l (p + 12))))
 
 -- The same of the assignment at index p, by the kind of its expression.
 unfoldable pub letOneHead : List ℕ → ℕ → ℕ → List ℕ
-letOneHead l p n = letOneHeadIf (ltb (u16At l (p + 10)) 18) l p n
+letOneHead l p n = letOneHeadIf (ltb (u16 l (p + 10)) 18) l p n
 
 -- A block or a loop, by whether it is a loop: how many bytes it has before its inner row.
 unfoldable pub opening : Bool → ℕ
@@ -53,4 +45,4 @@ letAllHeadIf false k l p n m = recordHead 38 n
 
 -- The same of the command at index p, by its kind: a loop, else a block.
 unfoldable pub letAllHead : ℕ → List ℕ → ℕ → ℕ → ℕ → List ℕ
-letAllHead k l p n m = letAllHeadIf (eqb (u16At l (p + 2)) 3) k l p n m
+letAllHead k l p n m = letAllHeadIf (eqb (u16 l (p + 2)) 3) k l p n m

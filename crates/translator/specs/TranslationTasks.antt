@@ -6,8 +6,9 @@ use lib.Dec.{eqb}
 use lib.ListN.{length}
 use Rattle.buffer.specs.Slice.{put}
 use Rattle.rules.specs.Syntax.{Block}
+use Rattle.record.specs.Front.{u16}
 use Rattle.translator.specs.RowTranslation.{RowAt, rowBytes, rowSize}
-use Rattle.translator.specs.TranslationHeads.{letAllHead, letAllSize, opening, u16At}
+use Rattle.translator.specs.TranslationHeads.{letAllHead, letAllSize, opening}
 use Rattle.translator.specs.declared.Parts.{Parts}
 use Rattle.translator.specs.declared.Task.{Task}
 
@@ -27,9 +28,9 @@ cutAt t next mid = record {
 -- A task whose first command is a block or a loop, from the row inside that command on.
 abbrev pub pastHeads : ℕ → List ℕ → Task → Task
 pastHeads k src t = record {
-  from = t .from + opening (eqb (u16At src (t .from + 2)) 3);
+  from = t .from + opening (eqb (u16 src (t .from + 2)) 3);
   to = t .to;
-  start = t .start + letAllSize k (eqb (u16At src (t .from + 2)) 3);
+  start = t .start + letAllSize k (eqb (u16 src (t .from + 2)) 3);
   stop = t .stop;
 }
 
@@ -37,7 +38,7 @@ pastHeads k src t = record {
 pub record Opens (k : ℕ) (src : List ℕ) (whole inner : Task) : Type 0 where
   pub task : TaskIn k src whole
   pub some : whole .from < whole .to
-  pub start : whole .start + letAllSize k (eqb (u16At src (whole .from + 2)) 3) ≡ inner .start
+  pub start : whole .start + letAllSize k (eqb (u16 src (whole .from + 2)) 3) ≡ inner .start
   pub order : inner .start ≤ inner .stop
   pub fits : inner .stop ≤ whole .stop
 

@@ -8,10 +8,11 @@ ghost use Rattle.buffer.specs.Slice.{put};
 ghost use Rattle.rules.specs.Syntax.{Block};
 ghost use Rattle.rules.specs.Translation.{translate};
 ghost use Rattle.record.specs.Answers.{padded};
+ghost use Rattle.record.specs.Front.{u16};
 ghost use Rattle.record.specs.Header.{encodeTerm};
 ghost use Rattle.record.specs.Holding.{ProgramIn};
 ghost use Rattle.translator.specs.RowTranslation.{RowAt, allBytes, rowBytes, rowSize};
-ghost use Rattle.translator.specs.TranslationHeads.{leadOf, letAllHead, letOneHead, letOneSize, u16At};
+ghost use Rattle.translator.specs.TranslationHeads.{leadOf, letAllHead, letOneHead, letOneSize};
 ghost use Rattle.translator.specs.TranslationTasks.{Opens, PartsOf, TaskIn, cutAt, pastHeads};
 use edit::put_head;
 use edit::put_header;
@@ -51,7 +52,7 @@ fn tuple_size(k: u32) -> usize
 
 fn let_one_size(src: &[u8], at: usize) -> usize
     requires { ⌜ at + 16 ≤ length (now src) ⌝ }
-    ensures { λ r. ⌜ r ≡ letOneSize (ltb (u16At (now (src .entry)) (at + 10)) 18) ⌝ }
+    ensures { λ r. ⌜ r ≡ letOneSize (ltb (u16 (now (src .entry)) (at + 10)) 18) ⌝ }
 {
     if buffer::get_u16(src, at + 10) < PLUS_ONE {
         16
@@ -123,7 +124,7 @@ fn write_lead(src: &[u8], at: usize, out: &mut [u8], o: usize, kind: usize, n: u
 // Gives where the let-one's last term goes.
 fn write_let_one(src: &[u8], at: usize, out: &mut [u8], o: usize, n: usize) -> usize
     requires { ⌜ (at + 16 ≤ length (now src)) × (o + 20 ≤ length (now out)) ⌝ }
-    ensures { λ r. ⌜ (now (out .exit) ≡ put (now (out .entry)) o (letOneHead (now (src .entry)) at n)) × (r ≡ o + letOneSize (ltb (u16At (now (src .entry)) (at + 10)) 18)) ⌝ }
+    ensures { λ r. ⌜ (now (out .exit) ≡ put (now (out .entry)) o (letOneHead (now (src .entry)) at n)) × (r ≡ o + letOneSize (ltb (u16 (now (src .entry)) (at + 10)) 18)) ⌝ }
 {
     let kind = buffer::get_u16(src, at + 10);
     if kind < PLUS_ONE {
@@ -179,7 +180,7 @@ fn cut(task: Task, next: usize, mid: usize) -> Parts
 
 // The two rows fill what the heads of the let-all leave, so it is enough to measure the shorter.
 fn rows_of(src: &[u8], whole: Task, k: u32) -> Parts
-    requires { ⌜ (TaskIn k (now src) whole) × (whole .from < whole .to) × (u16At (now src) (whole .from + 2) ≡ 2 → ⊥) ⌝ }
+    requires { ⌜ (TaskIn k (now src) whole) × (whole .from < whole .to) × (u16 (now src) (whole .from + 2) ≡ 2 → ⊥) ⌝ }
     ensures { λ r. ⌜ ((h : TaskIn k (now (src .entry)) whole) → PartsOf k (now (src .entry)) whole (h .row .block) r) ⌝ }
 {
     let inner = past_heads(src, whole, k);

@@ -3,6 +3,11 @@ ghost use mathlib.Core.Path.{_≡_};
 ghost use Prim.Native.Nat.{_≤_};
 ghost use lib.ListN.{length};
 ghost use Rattle.weighing.specs.Weigh.{countOf, netLoad, weighCall, weighed};
+use record::limit::VARIABLES;
+use record::refusal::BAD_STORE;
+
+// The most values that a store has.
+const MOST: usize = VARIABLES as usize;
 
 // The test stands before the difference because a u32 has no number below 0.
 pub fn net_load(gross: u32, tare: u32) -> u32
@@ -37,10 +42,10 @@ pub fn weigh(gross: u32, tare: u32, store: &mut [u32]) -> u32
 {
     let n = store.len();
     match n {
-        1..=16 => {
+        1..=MOST => {
             fill(store, count_of(net_load(gross, tare)));
             0
         }
-        _ => 6,
+        _ => BAD_STORE,
     }
 }

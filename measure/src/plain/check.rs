@@ -2,6 +2,7 @@
 
 use super::{half, word};
 use other::calls::Checked;
+use other::check::Refusal;
 
 /// None: outside the grammar (row 4). Else whether every variable is 1 to k (row 5 if not).
 type Verdict = Option<bool>;
@@ -16,18 +17,18 @@ pub fn check_term(buf: &[u8], used: usize) -> Checked {
 
 fn checked(buf: &[u8], used: usize, kind: usize, contents: fn(&[u8], u32) -> Verdict) -> Checked {
     if buf.len() > 16_384 || used > buf.len() {
-        return Checked::refused(1);
+        return Checked::refused(Refusal::BadBuffer);
     }
     if used < 8 || half(buf, 2) != kind || half(buf, 0) != used {
-        return Checked::refused(2);
+        return Checked::refused(Refusal::BadHeader);
     }
     let k = word(buf, 4);
     if !(1..=16).contains(&k) {
-        return Checked::refused(3);
+        return Checked::refused(Refusal::BadK);
     }
     match contents(&buf[8..used], k) {
-        None => Checked::refused(4),
-        Some(false) => Checked::refused(5),
+        None => Checked::refused(Refusal::Malformed),
+        Some(false) => Checked::refused(Refusal::BadVariable),
         Some(true) => Checked { number: 0, k },
     }
 }

@@ -2,21 +2,22 @@
 
 use super::{half, put_head, put_leaf, put_word, word};
 use other::calls::Written;
+use other::check::Refusal;
 
 pub fn read_back(src: &[u8], used: usize, out: &mut [u8]) -> Written {
     if out.len() > 16_384 {
-        return Written::refused(1);
+        return Written::refused(Refusal::BadBuffer);
     }
     let checked = super::check::check_term(src, used);
     if checked.number != 0 {
         return Written::refused(checked.number);
     }
     let Some(commands) = commands_size(src, 8, checked.k) else {
-        return Written::refused(9);
+        return Written::refused(Refusal::NoProgram);
     };
     let size = 12 + commands;
     if size > out.len() {
-        return Written::refused(10);
+        return Written::refused(Refusal::OutputTooShort);
     }
     put_head(out, 0, size, 7);
     put_word(out, 4, checked.k);

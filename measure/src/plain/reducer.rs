@@ -4,6 +4,7 @@
 use super::substitute::{closed, fill, Values};
 use super::{half, put_half, put_head, put_leaf, put_word, run, word, Ahead, State};
 use other::calls::Ran;
+use other::check::Refusal;
 
 const TERM: usize = 8;
 
@@ -13,7 +14,7 @@ pub fn run_reducer(buf: &mut [u8], used: usize, budget: u32) -> Ran {
         return Ran::refused(checked.number);
     }
     if !closed(buf, TERM) {
-        return Ran::refused(7);
+        return Ran::refused(Refusal::FreeVariable);
     }
     run(
         State { buf, used },

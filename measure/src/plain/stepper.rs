@@ -3,6 +3,7 @@
 
 use super::{half, put_head, put_leaf, put_word, run, word, Ahead, State};
 use other::calls::Ran;
+use other::check::Refusal;
 
 const OUTERMOST: usize = 8;
 
@@ -12,7 +13,7 @@ pub fn run_stepper(buf: &mut [u8], used: usize, store: &mut [u32], budget: u32) 
         return Ran::refused(checked.number);
     }
     if store.len() != checked.k as usize {
-        return Ran::refused(6);
+        return Ran::refused(Refusal::BadStore);
     }
     // Both closures read the store and one writes it, so it is handed about in a cell.
     let store = std::cell::RefCell::new(store);

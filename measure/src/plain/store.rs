@@ -2,6 +2,7 @@
 
 use super::substitute::closed;
 use super::{half, word};
+use other::check::Refusal;
 
 pub fn result(buf: &[u8], used: usize, store: &mut [u32]) -> u32 {
     let checked = super::check::check_term(buf, used);
@@ -9,13 +10,13 @@ pub fn result(buf: &[u8], used: usize, store: &mut [u32]) -> u32 {
         return checked.number;
     }
     if store.len() != checked.k as usize {
-        return 6;
+        return Refusal::BadStore.number();
     }
     if !closed(buf, 8) {
-        return 7;
+        return Refusal::FreeVariable.number();
     }
     if half(buf, 10) != 36 {
-        return 8;
+        return Refusal::Unfinished.number();
     }
     for (i, value) in store.iter_mut().enumerate() {
         *value = word(buf, 16 + 8 * i);
@@ -25,7 +26,7 @@ pub fn result(buf: &[u8], used: usize, store: &mut [u32]) -> u32 {
 
 pub fn weigh(gross: u32, tare: u32, store: &mut [u32]) -> u32 {
     if !(1..=16).contains(&store.len()) {
-        return 6;
+        return Refusal::BadStore.number();
     }
     store.fill(0);
     store[0] = gross.saturating_sub(tare) / 20;

@@ -2,6 +2,7 @@
 
 use super::{half, put_head, put_word, word};
 use other::calls::Written;
+use other::check::Refusal;
 
 /// The value of each variable, its number the index; none for one that stays.
 pub type Values = [Option<u32>; 17];
@@ -12,7 +13,7 @@ pub fn substitute(buf: &mut [u8], used: usize, store: &[u32]) -> Written {
         return Written::refused(checked.number);
     }
     if store.len() != checked.k as usize {
-        return Written::refused(6);
+        return Written::refused(Refusal::BadStore);
     }
     let mut values = [None; 17];
     for (variable, value) in store.iter().enumerate() {

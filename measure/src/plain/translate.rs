@@ -2,10 +2,11 @@
 
 use super::{half, put_all, put_half, put_head, put_leaf, put_word, word};
 use other::calls::Written;
+use other::check::Refusal;
 
 pub fn translate(src: &[u8], used: usize, out: &mut [u8]) -> Written {
     if out.len() > 16_384 {
-        return Written::refused(1);
+        return Written::refused(Refusal::BadBuffer);
     }
     let checked = super::check::check_program(src, used);
     if checked.number != 0 {
@@ -13,7 +14,7 @@ pub fn translate(src: &[u8], used: usize, out: &mut [u8]) -> Written {
     }
     let size = 8 + row_size(&src[12..used], checked.k);
     if size > out.len() {
-        return Written::refused(10);
+        return Written::refused(Refusal::OutputTooShort);
     }
     put_head(out, 0, size, 40);
     put_word(out, 4, checked.k);

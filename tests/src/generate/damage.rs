@@ -3,6 +3,7 @@
 //! The number is known from what was done and never asked of the checker: each change below is
 //! one after which its row applies, and of several rows the lowest is the one that is given.
 
+use crate::check::Refusal;
 use crate::codec::kind;
 use crate::generate::raw::Raw;
 use crate::random::Random;
@@ -111,9 +112,9 @@ pub fn let_all_to_let_one(record: &mut Raw, k: u32) -> u32 {
     assert_eq!(record.kind, kind::LET_ALL);
     record.kind = kind::LET_ONE;
     if k == 1 && record.children[0].kind == kind::TUPLE {
-        5
+        Refusal::BadVariable.number()
     } else {
-        4
+        Refusal::Malformed.number()
     }
 }
 
@@ -233,10 +234,15 @@ pub fn cut(random: &mut Random, sound: &[u8]) -> Damaged {
     if patched {
         buffer[..2].copy_from_slice(&(used as u16).to_le_bytes());
     }
+    let refusal = if patched {
+        Refusal::Malformed
+    } else {
+        Refusal::BadHeader
+    };
     Damaged {
         buffer,
         used,
-        number: Some(if patched { 4 } else { 2 }),
+        number: Some(refusal.number()),
     }
 }
 

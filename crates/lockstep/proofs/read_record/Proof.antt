@@ -2,7 +2,6 @@
 use borrow.Author.Needs.{needs}
 use Rattle.lockstep.proofs.read_record.Statement.{statement}
 use Rattle.lockstep.proofs.read_record.Tie as tie
-use Rattle.lockstep.proofs.read_record.Reads as reads
 use native.Mathlib.Omega.{arith}
 use mathlib.Core.Path.{sym}
 use lib.ListN.{drop, length-append, length-drop}

@@ -5,14 +5,17 @@ use Rattle.program_checker.proofs.check_record.Tie as tie
 use mathlib.Core.Path.{ap, sym, _∙_}
 use native.Mathlib.Omega.{arith}
 use Prim.Native.Nat.{ℕ}
+use mathlib.Core.List.{List}
+use lib.Seq.{length-take-le}
 use Rattle.rules.specs.Scope.{blockInRange}
 use Rattle.record.specs.Answers.{checkedBy}
-use Rattle.record.specs.Header.{blockIn, contentsAt, program}
-use Rattle.record.proofs.BetweenLaws.{between}
+use Rattle.record.specs.Header.{blockIn, program}
+use Rattle.record.proofs.BetweenLaws.{between, drop-take}
 use Rattle.record.proofs.HeaderReadLaws.{check-program-contents, check-program-header, header-room}
 use Rattle.record.proofs.HeldLaws.{good-buffer}
 use Rattle.checker.specs.Verdict.{numberOf}
 use Rattle.checker.proofs.VerdictLaws.{number-verdict}
+use Rattle.program_checker.specs.BlockVerdict.{blockVerdict}
 
 check-header-requires : tie.Need-check-header-requires
 check-header-requires c κs = c .before .pre
@@ -34,23 +37,9 @@ read-header-requires c κs =
 contents-at-requires : tie.Need-contents-at-requires
 contents-at-requires c κs = search needs
 
-sub-check-contents : tie.Need-sub-check-contents
-sub-check-contents c =
-    let w = header-room program (c .before .before .before .before .before .args .buf .now) (c .before .before .before .before .before .args .used) (sym (c .before .before .before .check-header .ensures) ∙ c .before .before .if1 .left) in
-    let b = good-buffer (c .before .before .before .before .before .args .buf .now) (c .before .before .before .before .before .args .used) (c .before .before .before .before .before .pre) in
-    omega (arith, b .within, w, c .contents-at .ensures ∙ ap contentsAt (c .before .read-header .ensures))
-
-part-check-contents-start : tie.Need-part-check-contents-start
-part-check-contents-start c =
-    let w = header-room program (c .before .before .before .before .before .args .buf .now) (c .before .before .before .before .before .args .used) (sym (c .before .before .before .check-header .ensures) ∙ c .before .before .if1 .left) in
-    let b = good-buffer (c .before .before .before .before .before .args .buf .now) (c .before .before .before .before .before .args .used) (c .before .before .before .before .before .pre) in
-    omega (arith, b .within, w, c .contents-at .ensures ∙ ap contentsAt (c .before .read-header .ensures))
-
-part-check-contents-end : tie.Need-part-check-contents-end
-part-check-contents-end c =
-    let w = header-room program (c .before .before .before .before .before .args .buf .now) (c .before .before .before .before .before .args .used) (sym (c .before .before .before .check-header .ensures) ∙ c .before .before .if1 .left) in
-    let b = good-buffer (c .before .before .before .before .before .args .buf .now) (c .before .before .before .before .before .args .used) (c .before .before .before .before .before .pre) in
-    omega (arith, b .within, w, c .contents-at .ensures ∙ ap contentsAt (c .before .read-header .ensures))
+slice-aggregate-check-contents : tie.Need-slice-aggregate-check-contents
+slice-aggregate-check-contents c =
+    sym (length-take-le (c .before .before .before .before .before .before .args .used) (c .before .before .before .before .before .before .args .buf .now) (good-buffer _ _ (c .before .before .before .before .before .before .pre) .within))
 
 check-contents-requires : tie.Need-check-contents-requires
 check-contents-requires c κs = search needs
@@ -66,7 +55,7 @@ returns-2 c =
     let h = c .before .before .before .before .before .read-header in
     let start = c .before .before .before .before .contents-at in
     c .answer2 .ensures
-    ∙ ap (λ (n : ℕ). checkedBy n (h .result .k)) (c .before .number-of .ensures ∙ ap numberOf (c .before .before .check-contents .ensures) ∙ number-verdict (blockInRange (h .result .k)) (blockIn (between (c .before .before .before .before .before .before .before .before .before .args .buf .now) (start .result) (c .before .before .before .before .before .before .before .before .before .args .used))))
+    ∙ ap (λ (n : ℕ). checkedBy n (h .result .k)) (c .before .number-of .ensures ∙ ap numberOf (c .before .before .check-contents .ensures ∙ ap (λ (x : List ℕ). blockVerdict (h .result .k) (blockIn x)) (drop-take (start .result) (c .before .before .before .before .before .before .before .before .before .args .used) (c .before .before .before .before .before .before .before .before .before .args .buf .now))) ∙ number-verdict (blockInRange (h .result .k)) (blockIn (between (c .before .before .before .before .before .before .before .before .before .args .buf .now) (start .result) (c .before .before .before .before .before .before .before .before .before .args .used))))
     ∙ sym (check-program-contents (c .before .before .before .before .before .before .before .before .before .args .buf .now) (c .before .before .before .before .before .before .before .before .before .args .used) (c .before .before .before .before .before .before .before .before .before .pre) (sym (c .before .before .before .before .before .before .before .check-header .ensures) ∙ c .before .before .before .before .before .before .if1 .left) (h .result) (h .ensures) (start .result) (start .ensures))
 
 pub check-record-spec : {M : Type 1} → statement M
@@ -78,9 +67,7 @@ check-record-spec =
     returns
     read-header-requires
     contents-at-requires
-    sub-check-contents
-    part-check-contents-start
-    part-check-contents-end
+    slice-aggregate-check-contents
     check-contents-requires
     number-of-requires
     answer-requires-2

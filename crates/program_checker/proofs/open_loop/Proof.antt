@@ -7,9 +7,8 @@ use native.Mathlib.Omega.{arith}
 use Prim.Native.Nat.{ℕ}
 use lib.ListN.{drop, take}
 use Rattle.rules.specs.Scope.{inRange}
-use Rattle.record.specs.Front.{isOnly, only, u32}
+use Rattle.record.specs.Front.{only, u32}
 use Rattle.record.specs.Program.{decodeBlock, readBound}
-use Rattle.record.proofs.BetweenLaws.{between-rest}
 use Rattle.record.proofs.ProgramReadLaws.{decode-loop, decode-loop-no}
 use Rattle.checker.specs.Verdict.{rated, worse}
 use Rattle.program_checker.specs.BlockVerdict.{blockVerdict}
@@ -24,17 +23,8 @@ returns : tie.Need-returns
 returns c =
     opens-none (c .before .before .before .args .k) (c .before .before .before .args .s .now) (c .no-command .ensures) (c .before .before .before .pre .0 .least) (decode-loop-no (c .before .before .before .args .s .now) (c .before .before .before .pre .0) (c .before .before .before .pre .1) (λ x y. omega arith))
 
-sub-is-only : tie.Need-sub-is-only
-sub-is-only c = search needs
-
-part-is-only-start : tie.Need-part-is-only-start
-part-is-only-start c = search needs
-
-part-is-only-end : tie.Need-part-is-only-end
-part-is-only-end c = search needs
-
-is-only-requires : tie.Need-is-only-requires
-is-only-requires c κs = search needs
+only-at-requires : tie.Need-only-at-requires
+only-at-requires c κs = search needs
 
 get-u32-requires : tie.Need-get-u32-requires
 get-u32-requires c κs = search needs
@@ -62,22 +52,22 @@ no-command-requires-2 c κs = search needs
 
 returns-2 : tie.Need-returns-2
 returns-2 c =
-    let s = c .before .before .before .before .before .before .before .before .before .before .args .s .now in
-    let k = c .before .before .before .before .before .before .before .before .before .before .args .k in
-    let is-block = ap (isOnly 1) (sym (between-rest s 16)) ∙ sym (c .before .before .before .before .before .before .is-only .ensures) ∙ c .before .before .before .before .before .if2 .taken in
+    let s = c .before .before .before .before .before .before .before .before .before .args .s .now in
+    let k = c .before .before .before .before .before .before .before .before .before .args .k in
+    let is-block = sym (c .before .before .before .before .before .before .only-at .ensures) ∙ c .before .before .before .before .before .if2 .taken in
     record {
       least = omega arith;
       most = omega arith;
-      both = ap (blockVerdict k) (decode-loop s (c .before .before .before .before .before .before .before .before .before .before .pre .0) (c .before .before .before .before .before .before .before .before .before .before .pre .1) (omega arith) is-block)
+      both = ap (blockVerdict k) (decode-loop s (c .before .before .before .before .before .before .before .before .before .pre .0) (c .before .before .before .before .before .before .before .before .before .pre .1) (omega arith) is-block)
           ∙ loop-verdict k (u32 s 4) (only (readBound (take 8 (drop 8 s)))) (decodeBlock (drop 20 s))
           ∙ sym (ap (λ (v : Verdict). worse v (blockVerdict k (decodeBlock (drop 20 s)))) (c .worst .ensures ∙ ap₂ worse (c .before .before .before .check-variable .ensures ∙ ap (λ (x : ℕ). rated (inRange k x)) (c .before .before .before .before .get-u32 .ensures)) (c .before .check-bound .ensures)));
     }
 
 returns-3 : tie.Need-returns-3
 returns-3 c =
-    let s = c .before .before .before .before .before .before .args .s .now in
-    let not-only = ap (isOnly 1) (sym (between-rest s 16)) ∙ sym (c .before .before .is-only .ensures) ∙ c .before .if2 .left in
-    opens-none (c .before .before .before .before .before .before .args .k) s (c .no-command2 .ensures) (c .before .before .before .before .before .before .pre .0 .least) (decode-loop-no s (c .before .before .before .before .before .before .pre .0) (c .before .before .before .before .before .before .pre .1) (λ x y. true-false (sym y ∙ not-only)))
+    let s = c .before .before .before .before .before .args .s .now in
+    let not-only = sym (c .before .before .only-at .ensures) ∙ c .before .if2 .left in
+    opens-none (c .before .before .before .before .before .args .k) s (c .no-command2 .ensures) (c .before .before .before .before .before .pre .0 .least) (decode-loop-no s (c .before .before .before .before .before .pre .0) (c .before .before .before .before .before .pre .1) (λ x y. true-false (sym y ∙ not-only)))
 
 pub open-loop-spec : {M : Type 1} → statement M
 open-loop-spec =
@@ -85,10 +75,7 @@ open-loop-spec =
     (tie.spec
     no-command-requires
     returns
-    sub-is-only
-    part-is-only-start
-    part-is-only-end
-    is-only-requires
+    only-at-requires
     get-u32-requires
     check-variable-requires
     sub-check-bound

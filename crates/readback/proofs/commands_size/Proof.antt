@@ -4,13 +4,13 @@ use native.Mathlib.Omega.{arith}
 use mathlib.Core.List.{List}
 use Prim.Native.Nat.{_+_, _-_, _≤_}
 use Rattle.rules.specs.Syntax.{Term}
-use Rattle.recognition.specs.Scan.{TermsAt}
+use Rattle.recognition.specs.Scan.{TermsUpTo}
 use Rattle.readback.proofs.CommandLaws.{ToCount, count-end, count-here, count-low, count-next, count-start, count-room}
 use Rattle.recognition.proofs.ScanLaws.{terms-order, terms-pass}
 
 abbrev Inv-loop : tie.InvT-loop
 Inv-loop src from to k n₀ at₀ n at =
-    ((ts : List Term) → TermsAt src k to from ts → ToCount src k to n at ts) × (from + n ≤ at)
+    ((ts : List Term) → TermsUpTo src k to from ts → ToCount src k to n at ts) × (from + n ≤ at)
 
 abbrev μ-loop : tie.MeasureT-loop
 μ-loop src from to k n₀ at₀ n at = to - at

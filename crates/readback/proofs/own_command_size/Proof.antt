@@ -1,9 +1,8 @@
 use Rattle.readback.proofs.own_command_size.Statement.{statement}
 use Rattle.readback.proofs.own_command_size.Tie as tie
 use native.Mathlib.Omega.{arith}
-use mathlib.Core.Path.{ap, sym, _∙_}
-use lib.ListN.{length}
-use Rattle.readback.proofs.CommandLaws.{command-loop, command-tuple, first-room, length-letOne, length-nest, length-rec}
+use mathlib.Core.Path.{sym, _∙_}
+use Rattle.readback.proofs.CommandLaws.{command-letOne, command-loop, command-nest, command-rec, command-tuple, first-room}
 use Rattle.recognition.proofs.ScanLaws.{kind-left, kind-room}
 
 add-get-u16 : tie.Need-add-get-u16
@@ -13,10 +12,10 @@ get-u16-requires : tie.Need-get-u16-requires
 get-u16-requires c κs = omega (arith, kind-room (c .before .pre .2))
 
 returns : tie.Need-returns
-returns c = λ k t h. sym (ap length (command-tuple h (sym (c .before .get-u16 .ensures .0) ∙ c .if1 .taken)))
+returns c = λ k t h. sym (command-tuple h (sym (c .before .get-u16 .ensures .0) ∙ c .if1 .taken))
 
 returns-2 : tie.Need-returns-2
-returns-2 c = λ k t h. sym (length-letOne h (sym (c .before .before .get-u16 .ensures .0) ∙ c .if2 .taken))
+returns-2 c = λ k t h. sym (command-letOne h (sym (c .before .before .get-u16 .ensures .0) ∙ c .if2 .taken))
 
 add-get-u16-2 : tie.Need-add-get-u16-2
 add-get-u16-2 c =
@@ -28,15 +27,15 @@ get-u16-requires-2 c κs =
 
 returns-3 : tie.Need-returns-3
 returns-3 c =
-    λ k t h. sym (ap length (command-loop h (sym (c .before .before .before .before .before .get-u16 .ensures .0) ∙ c .before .before .if3 .taken) (sym (c .before .get-u162 .ensures .0) ∙ c .if4 .taken)))
+    λ k t h. sym (command-loop h (sym (c .before .before .before .before .before .get-u16 .ensures .0) ∙ c .before .before .if3 .taken) (sym (c .before .get-u162 .ensures .0) ∙ c .if4 .taken))
 
 returns-4 : tie.Need-returns-4
 returns-4 c =
-    λ k t h. sym (length-nest h (sym (c .before .before .before .before .before .get-u16 .ensures .0) ∙ c .before .before .if3 .taken) (λ e. c .if4 .left (c .before .get-u162 .ensures .0 ∙ e)))
+    λ k t h. sym (command-nest h (sym (c .before .before .before .before .before .get-u16 .ensures .0) ∙ c .before .before .if3 .taken) (λ e. c .if4 .left (c .before .get-u162 .ensures .0 ∙ e)))
 
 returns-5 : tie.Need-returns-5
 returns-5 c =
-    λ k t h. sym (length-rec h (kind-left h (λ e. c .before .before .if1 .left (c .before .before .before .get-u16 .ensures .0 ∙ e)) (λ e. c .before .if2 .left (c .before .before .before .get-u16 .ensures .0 ∙ e)) (λ e. c .if3 .left (c .before .before .before .get-u16 .ensures .0 ∙ e))))
+    λ k t h. sym (command-rec h (kind-left h (λ e. c .before .before .if1 .left (c .before .before .before .get-u16 .ensures .0 ∙ e)) (λ e. c .before .if2 .left (c .before .before .before .get-u16 .ensures .0 ∙ e)) (λ e. c .if3 .left (c .before .before .before .get-u16 .ensures .0 ∙ e))))
 
 pub own-command-size-spec : {M : Type 1} → statement M
 own-command-size-spec =

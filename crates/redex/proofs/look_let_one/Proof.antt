@@ -1,11 +1,8 @@
 use borrow.Author.Needs.{needs}
 use Rattle.redex.proofs.look_let_one.Statement.{statement}
 use Rattle.redex.proofs.look_let_one.Tie as tie
-use mathlib.Core.Path.{sym, ap, _∙_}
-use Prim.Native.Nat.{ℕ}
+use mathlib.Core.Path.{sym, _∙_}
 use native.Mathlib.Omega.{arith}
-use Rattle.plan.specs.Plan.{plan}
-use Rattle.plan.specs.declared.Rule.the-variants.{Evaluate}
 use Rattle.redex.proofs.LookLaws.{let-atom, let-pred, let-succ, one-room}
 use Rattle.rules.specs.Store.{upTo}
 
@@ -29,10 +26,14 @@ get-u32-requires-2 : tie.Need-get-u32-requires-2
 get-u32-requires-2 c κs =
     omega (arith, one-room (c .before .before .before .before .pre .0 .1 .1) (c .before .before .before .before .pre .1))
 
+bind-requires : tie.Need-bind-requires
+bind-requires c κs = search needs
+
 returns : tie.Need-returns
 returns c =
     λ k t h s.
-    let-atom h (c .before .before .before .before .before .pre .1) s (upTo (c .before .before .before .before .before .args .largest)) (c .before .before .before .before .before .args .levels) (c .before .before .before .get-u32 .result) (c .before .before .before .get-u32 .ensures) (sym (c .before .before .get-u16 .ensures .0) ∙ c .before .if1 .taken) (c .get-u322 .result) (c .get-u322 .ensures)
+    c .bind .ensures
+    ∙ let-atom h (c .before .before .before .before .before .before .pre .1) s (upTo (c .before .before .before .before .before .before .args .largest)) (c .before .before .before .before .before .before .args .levels) (c .before .before .before .before .get-u32 .result) (c .before .before .before .before .get-u32 .ensures) (sym (c .before .before .before .get-u16 .ensures .0) ∙ c .before .before .if1 .taken) (c .before .get-u322 .result) (c .before .get-u322 .ensures)
 
 add-get-u32-3 : tie.Need-add-get-u32-3
 add-get-u32-3 c =
@@ -45,11 +46,14 @@ get-u32-requires-3 c κs =
 minus-one-requires : tie.Need-minus-one-requires
 minus-one-requires c κs = search needs
 
+evaluate-requires : tie.Need-evaluate-requires
+evaluate-requires c κs = search needs
+
 returns-2 : tie.Need-returns-2
 returns-2 c =
     λ k t h s.
-    ap (λ (n : ℕ). plan (c .before .before .before .before .before .before .before .args .levels) (c .before .before .before .before .before .before .before .args .at) Evaluate (c .before .before .before .before .before .get-u32 .result) n 0 4) (c .minus-one .ensures)
-    ∙ let-pred h (c .before .before .before .before .before .before .before .pre .1) s (upTo (c .before .before .before .before .before .before .before .args .largest)) (c .before .before .before .before .before .before .before .args .levels) (c .before .before .before .before .before .get-u32 .result) (c .before .before .before .before .before .get-u32 .ensures) (sym (c .before .before .before .before .get-u16 .ensures .0) ∙ c .before .if2 .taken) (c .before .before .get-u323 .result) (c .before .before .get-u323 .ensures)
+    c .evaluate .ensures
+    ∙ let-pred h (c .before .before .before .before .before .before .before .before .pre .1) s (upTo (c .before .before .before .before .before .before .before .before .args .largest)) (c .before .before .before .before .before .before .before .before .args .levels) (c .before .before .before .before .before .before .get-u32 .result) (c .before .before .before .before .before .before .get-u32 .ensures) (sym (c .before .before .before .before .before .get-u16 .ensures .0) ∙ c .before .before .if2 .taken) (c .before .before .before .get-u323 .result) (c .before .minus-one .result) (c .before .before .before .get-u323 .ensures) (c .before .minus-one .ensures)
 
 raise-requires : tie.Need-raise-requires
 raise-requires c κs = search needs
@@ -70,10 +74,12 @@ look-let-one-spec =
     get-u16-requires
     add-get-u32-2
     get-u32-requires-2
+    bind-requires
     returns
     add-get-u32-3
     get-u32-requires-3
     minus-one-requires
+    evaluate-requires
     returns-2
     raise-requires
     returns-3)

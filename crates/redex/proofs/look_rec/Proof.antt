@@ -1,12 +1,12 @@
 use borrow.Author.Needs.{needs}
 use Rattle.redex.proofs.look_rec.Statement.{statement}
 use Rattle.redex.proofs.look_rec.Tie as tie
-use mathlib.Core.Path.{_≡_}
+use mathlib.Core.Path.{_≡_, _∙_}
 use Prim.Native.Nat.{_+_, _*_, _-_}
 use native.Mathlib.Omega.{arith}
 use Rattle.buffer.specs.LittleEndian.{val}
 use Rattle.buffer.specs.Slice.{part}
-use Rattle.redex.proofs.LookLaws.{rec-room, rec-stop, rec-unroll}
+use Rattle.redex.proofs.LookLaws.{rec-plan, rec-room}
 
 add-get-u32 : tie.Need-add-get-u32
 add-get-u32 c = omega (arith, rec-room (c .before .pre .0 .1) (c .before .pre .1))
@@ -34,23 +34,15 @@ sub-body : tie.Need-sub-body
 sub-body c =
     omega (arith, rec-room (c .before .before .before .before .pre .0 .1) (c .before .before .before .before .pre .1))
 
-add-t14 : tie.Need-add-t14
-add-t14 c = search needs
+turn-requires : tie.Need-turn-requires
+turn-requires c κs = search needs
 
 returns : tie.Need-returns
 returns c =
     λ t h s ok.
-    let b : c .before .get-u16 .result - (24 + 8 * (c .before .before .before .before .before .args .k)) + (24 + 8 * (c .before .before .before .before .before .args .k)) ≡ val (part (c .before .before .before .before .before .args .buf .now) (c .before .before .before .before .before .args .at) 2) = omega (arith, rec-room h (c .before .before .before .before .before .pre .1), c .before .get-u16 .ensures .0) in
-    rec-stop h (c .before .before .before .before .before .pre .1) s ok (c .before .before .before .before .before .args .levels) (c .before .before .before .get-u32 .result) (c .before .get-u16 .result - (24 + 8 * (c .before .before .before .before .before .args .k))) (c .before .before .before .get-u32 .ensures) b (c .before .before .get-u322 .result) (c .before .before .get-u322 .ensures) (c .if1 .taken)
-
-add-t8 : tie.Need-add-t8
-add-t8 c = search needs
-
-returns-2 : tie.Need-returns-2
-returns-2 c =
-    λ t h s ok.
-    let b : c .before .get-u16 .result - (24 + 8 * (c .before .before .before .before .before .args .k)) + (24 + 8 * (c .before .before .before .before .before .args .k)) ≡ val (part (c .before .before .before .before .before .args .buf .now) (c .before .before .before .before .before .args .at) 2) = omega (arith, rec-room h (c .before .before .before .before .before .pre .1), c .before .get-u16 .ensures .0) in
-    rec-unroll h (c .before .before .before .before .before .pre .1) s ok (c .before .before .before .before .before .args .levels) (c .before .before .before .get-u32 .result) (c .before .get-u16 .result - (24 + 8 * (c .before .before .before .before .before .args .k))) (c .before .before .before .get-u32 .ensures) b (c .before .before .get-u322 .result) (c .before .before .get-u322 .ensures) (c .if1 .left)
+    let b : c .before .get-u16 .result - (20 + 8 * (c .before .before .before .before .before .args .k)) + (20 + 8 * (c .before .before .before .before .before .args .k)) ≡ val (part (c .before .before .before .before .before .args .buf .now) (c .before .before .before .before .before .args .at) 2) = omega (arith, rec-room h (c .before .before .before .before .before .pre .1), c .before .get-u16 .ensures .0) in
+    c .turn .ensures
+    ∙ rec-plan h (c .before .before .before .before .before .pre .1) s ok (c .before .before .before .before .before .args .levels) (c .before .before .before .get-u32 .result) (c .before .get-u16 .result - (20 + 8 * (c .before .before .before .before .before .args .k))) (c .before .before .get-u322 .result) (c .before .before .before .get-u32 .ensures) b (c .before .before .get-u322 .ensures)
 
 pub look-rec-spec : {M : Type 1} → statement M
 look-rec-spec =
@@ -64,7 +56,5 @@ look-rec-spec =
     mul-body
     add-body
     sub-body
-    add-t14
-    returns
-    add-t8
-    returns-2)
+    turn-requires
+    returns)

@@ -1,51 +1,80 @@
 use borrow.Author.Needs.{needs}
 use Rattle.term_checker.proofs.check_tuple.Statement.{statement}
 use Rattle.term_checker.proofs.check_tuple.Tie as tie
+use Prim.Native.Nat.{_+_, _-_, ℕ}
 use mathlib.Core.Path.{ap, sym, _∙_}
 use native.Mathlib.Omega.{arith}
+use Rattle.buffer.specs.Slice.{part}
 use Rattle.rules.specs.Scope.{atomsInRange}
 use Rattle.record.specs.Term.{decodeAtoms}
-use Rattle.record.proofs.AloneLaws.{recordKind-least, take-rest}
-use Rattle.record.proofs.TermReadLaws.{onlyTuple-other, onlyTuple-read}
+use Rattle.record.proofs.TermReadLaws.{onlyTuple-other}
+use Rattle.reader.proofs.HeadLaws.{next-record, record-tells}
 use Rattle.checker.specs.Verdict.{verdict}
-use Rattle.term_checker.proofs.KindLaws.{record-termKind, termKind-record}
+use Rattle.term_checker.proofs.WalkLaws.{none-end, none-short, stands-kind}
+use Rattle.term_checker.proofs.TermWalkLaws.{tuple-none, tuple-walk}
 use Rattle.term_checker.proofs.TermVerdictLaws.{verdict-none}
 
-term-kind-requires : tie.Need-term-kind-requires
-term-kind-requires c κs = search needs
+head-at-requires : tie.Need-head-at-requires
+head-at-requires c κs = search needs
+
+enum-known-kind : tie.Need-enum-known-kind
+enum-known-kind c = search needs
 
 returns : tie.Need-returns
 returns c =
-    sym (verdict-none (atomsInRange (c .before .before .before .args .k)) _ (onlyTuple-other (c .before .before .before .args .k) (c .before .before .before .args .s .now) (λ e. c .if1 .taken (c .before .term-kind .ensures ∙ record-termKind (c .before .before .before .args .s .now) 36 (omega arith) (omega arith) e))))
+    let a = c .before .before .before .before .before .before .args in
+    let kind = stands-kind (a .s .now) (a .at) _ _ (sym (c .before .before .before .before .head-at .ensures) ∙ c .before .before .kind .given .1) in
+    sym (verdict-none (atomsInRange (a .k)) _ (onlyTuple-other (a .k) _ (λ q. c .if1 .taken (sym kind ∙ q))))
 
-sub-check-atoms : tie.Need-sub-check-atoms
-sub-check-atoms c =
-    recordKind-least (c .before .before .before .args .s .now) 36 (termKind-record (c .before .before .before .args .s .now) 36 (omega arith) (sym (c .before .term-kind .ensures) ∙ c .if1 .left)) (omega arith)
+add-check-atoms : tie.Need-add-check-atoms
+add-check-atoms c =
+    let w = record-tells _ _ _ _ (sym (c .before .before .before .before .head-at .ensures) ∙ c .before .before .kind .given .1) in
+    record { fits = omega (arith, w .least, w .inside) }
 
-part-check-atoms-start : tie.Need-part-check-atoms-start
-part-check-atoms-start c =
-    recordKind-least (c .before .before .before .args .s .now) 36 (termKind-record (c .before .before .before .args .s .now) 36 (omega arith) (sym (c .before .term-kind .ensures) ∙ c .if1 .left)) (omega arith)
-
-part-check-atoms-end : tie.Need-part-check-atoms-end
-part-check-atoms-end c = search needs
+after-requires : tie.Need-after-requires
+after-requires c κs = search needs
 
 check-atoms-requires : tie.Need-check-atoms-requires
-check-atoms-requires c κs = search needs
+check-atoms-requires c κs =
+    let e = sym (c .before .before .before .before .before .head-at .ensures) ∙ c .before .before .before .kind .given .1 in
+    let w = record-tells _ _ _ _ e in
+    let next = c .after .ensures ∙ next-record _ _ _ _ e in
+    (omega (arith, next, w .least), omega (arith, next, w .inside))
+
+enum-told : tie.Need-enum-told
+enum-told c = search needs
+
+enum-told-2 : tie.Need-enum-told-2
+enum-told-2 c = search needs
 
 returns-2 : tie.Need-returns-2
 returns-2 c =
-    let s = c .before .before .before .before .before .args .s .now in
+    let a = c .before .before .before .before .before .before .before .before .args in
+    let kind = stands-kind (a .s .now) (a .at) _ _ (sym (c .before .before .before .before .before .before .head-at .ensures) ∙ c .before .before .before .before .kind .given .1) in
     c .check-atoms .ensures
-    ∙ ap (verdict (atomsInRange (c .before .before .before .before .before .args .k))) (ap (decodeAtoms (c .before .before .before .before .before .args .k)) (take-rest 4 s) ∙ sym (onlyTuple-read (c .before .before .before .before .before .args .k) s (termKind-record s 36 (omega arith) (sym (c .before .before .before .term-kind .ensures) ∙ c .before .before .if1 .left))))
+    ∙ ap (λ (m : ℕ). verdict (atomsInRange (a .k)) (decodeAtoms (a .k) (part (a .s .now) (a .at + 4) (m - (a .at + 4))))) (c .before .after .ensures)
+    ∙ ap (verdict (atomsInRange (a .k))) (sym (tuple-walk (a .s .now) (a .at) (a .k) (kind ∙ c .before .before .if1 .left)))
+
+returns-3 : tie.Need-returns-3
+returns-3 c =
+    sym (verdict-none (atomsInRange (c .before .before .before .before .args .k)) _ (tuple-none _ (none-end (c .before .before .before .before .args .s .now) (c .before .before .before .before .args .at) (sym (c .before .before .head-at .ensures) ∙ c .enum-told .given .1)) (c .before .before .before .before .args .k)))
+
+returns-4 : tie.Need-returns-4
+returns-4 c =
+    sym (verdict-none (atomsInRange (c .before .before .before .before .args .k)) _ (tuple-none _ (none-short (c .before .before .before .before .args .s .now) (c .before .before .before .before .args .at) (sym (c .before .before .head-at .ensures) ∙ c .enum-told2 .given .1)) (c .before .before .before .before .args .k)))
 
 pub check-tuple-spec : {M : Type 1} → statement M
 check-tuple-spec =
     tie.close
     (tie.spec
-    term-kind-requires
+    head-at-requires
+    enum-known-kind
     returns
-    sub-check-atoms
-    part-check-atoms-start
-    part-check-atoms-end
+    add-check-atoms
+    after-requires
     check-atoms-requires
-    returns-2)
+    enum-told
+    enum-told-2
+    returns-2
+    returns-3
+    returns-4)

@@ -5,7 +5,7 @@ use Rattle.term.proofs.translate.translate.Tie as tie
 use mathlib.Core.Path.{sym, _∙_}
 use Rattle.buffer.proofs.LittleEndianLaws.{bytes-of}
 use Rattle.record.proofs.CheckedRowLaws.{program-accepted}
-use Rattle.term.proofs.AnsweredLaws.{translate-checked, translate-one}
+use Rattle.term.proofs.AnsweredLaws.{answers, translate-checked, translate-one}
 use native.Mathlib.Omega.{arith}
 use Rattle.record.proofs.HeldLaws.{long-is, short-buffer}
 use Rattle.record.proofs.HoldingLaws.{program-as-read, program-whole}
@@ -13,16 +13,24 @@ use Rattle.record.proofs.HoldingLaws.{program-as-read, program-whole}
 too-long-requires : tie.Need-too-long-requires
 too-long-requires c κs = search needs
 
+refused-requires : tie.Need-refused-requires
+refused-requires c κs = search needs
+
 returns : tie.Need-returns
 returns c =
-    translate-one (c .before .before .before .before .args .src .now) (c .before .before .before .before .args .used) (c .before .before .before .before .args .out .now) (sym (long-is _) ∙ sym (c .before .too-long .ensures) ∙ c .if1 .taken)
+    answers (c .refused .ensures)
+    (translate-one (c .before .before .before .before .before .args .src .now) (c .before .before .before .before .before .args .used) (c .before .before .before .before .before .args .out .now) (sym (long-is _) ∙ sym (c .before .before .too-long .ensures) ∙ c .before .if1 .taken))
 
 check-program-requires : tie.Need-check-program-requires
 check-program-requires c κs = search needs
 
+refused-requires-2 : tie.Need-refused-requires-2
+refused-requires-2 c κs = search needs
+
 returns-2 : tie.Need-returns-2
 returns-2 c =
-    translate-checked (c .before .before .before .before .before .before .before .args .src .now) (c .before .before .before .before .before .before .before .args .used) (c .before .before .check-program .result .number) (c .before .before .check-program .result .k) (c .before .before .before .before .before .before .before .args .out .now) (sym (c .before .before .check-program .ensures)) (c .if2 .taken) (sym (long-is _) ∙ sym (c .before .before .before .before .too-long .ensures) ∙ c .before .before .before .if1 .left)
+    answers (c .refused2 .ensures)
+    (translate-checked (c .before .before .before .before .before .before .before .before .args .src .now) (c .before .before .before .before .before .before .before .before .args .used) (c .before .before .before .check-program .result .number) (c .before .before .before .check-program .result .k) (c .before .before .before .before .before .before .before .before .args .out .now) (sym (c .before .before .before .check-program .ensures)) (c .before .if2 .taken) (sym (long-is _) ∙ sym (c .before .before .before .before .before .too-long .ensures) ∙ c .before .before .before .before .if1 .left))
 
 read-header-requires : tie.Need-read-header-requires
 read-header-requires c κs =
@@ -44,8 +52,10 @@ translate-spec =
     tie.close
     (tie.spec
     too-long-requires
+    refused-requires
     returns
     check-program-requires
+    refused-requires-2
     returns-2
     read-header-requires
     translate-checked-requires

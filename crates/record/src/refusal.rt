@@ -1,0 +1,31 @@
+// The numbers of the refusals, in the order of 01's table ("Where an order stops"); include/vistrokk.h has the same names.
+
+// A buffer that is too long, or a used length above its buffer.
+pub const BAD_BUFFER: u32 = 1;
+
+// No whole header, wrong kind, or a length that is not the used length.
+pub const BAD_HEADER: u32 = 2;
+
+// k not 1 to 16.
+pub const BAD_K: u32 = 3;
+
+// Bytes outside the grammar.
+pub const MALFORMED: u32 = 4;
+
+// A variable number not 1 to k.
+pub const BAD_VARIABLE: u32 = 5;
+
+// A store that has not the number of values asked for.
+pub const BAD_STORE: u32 = 6;
+
+// A free variable.
+pub const FREE_VARIABLE: u32 = 7;
+
+// Not finished.
+pub const UNFINISHED: u32 = 8;
+
+// No program translates to it.
+pub const NO_PROGRAM: u32 = 9;
+
+// The answer is longer than the output buffer.
+pub const OUTPUT_TOO_SHORT: u32 = 10;

@@ -1,0 +1,128 @@
+//! The nine calls, as the stack is measured of them.
+
+use super::Call;
+
+pub fn every_call() -> Vec<Call> {
+    let mut calls: Vec<Call> = Vec::new();
+    calls.extend(check::calls());
+    calls.extend(terms::calls());
+    calls.extend(weigh::calls());
+    calls.extend(stepper::calls());
+    calls.extend(reducer::calls());
+    calls
+}
+
+mod check {
+    use super::Call;
+    use crate::extremes::{program_records, term_records};
+    use crate::{calls, library};
+
+    pub fn calls() -> [Call; 2] {
+        let program = Call {
+            name: "check_program",
+            limit: 2_048,
+            records: program_records,
+            library: |s| library::check_program(&s.buffer, s.used).number,
+            other: |s| calls::check_program(&s.buffer, s.used).number,
+        };
+        let term = Call {
+            name: "check_term",
+            limit: 2_048,
+            records: term_records,
+            library: |s| library::check_term(&s.buffer, s.used).number,
+            other: |s| calls::check_term(&s.buffer, s.used).number,
+        };
+        [program, term]
+    }
+}
+
+mod terms {
+    use super::Call;
+    use crate::extremes::{program_records, result_records, term_records};
+    use crate::{calls, library};
+
+    pub fn calls() -> [Call; 4] {
+        let translate = Call {
+            name: "translate",
+            limit: 3_072,
+            records: program_records,
+            library: |s| library::translate(&s.buffer, s.used, &mut s.out).number,
+            other: |s| calls::translate(&s.buffer, s.used, &mut s.out).number,
+        };
+        let read_back = Call {
+            name: "read_back",
+            limit: 2_048,
+            records: term_records,
+            library: |s| library::read_back(&s.buffer, s.used, &mut s.out).number,
+            other: |s| calls::read_back(&s.buffer, s.used, &mut s.out).number,
+        };
+        let substitute = Call {
+            name: "substitute",
+            limit: 2_048,
+            records: term_records,
+            library: |s| library::substitute(&mut s.buffer, s.used, &s.store).number,
+            other: |s| calls::substitute(&mut s.buffer, s.used, &s.store).number,
+        };
+        let result = Call {
+            name: "result",
+            limit: 2_048,
+            records: result_records,
+            library: |s| library::result(&s.buffer, s.used, &mut s.store),
+            other: |s| calls::result(&s.buffer, s.used, &mut s.store),
+        };
+        [translate, read_back, substitute, result]
+    }
+}
+
+mod weigh {
+    use super::Call;
+    use crate::extremes::finished_record;
+    use crate::{calls, library};
+
+    /// It is lent a store alone; the record is only there to say how many values.
+    pub fn calls() -> [Call; 1] {
+        [Call {
+            name: "weigh",
+            limit: 2_048,
+            records: finished_record,
+            library: |s| library::weigh(40_000, 15_000, &mut s.store),
+            other: |s| calls::weigh(40_000, 15_000, &mut s.store),
+        }]
+    }
+}
+
+mod stepper {
+    use super::Call;
+    use crate::extremes::program_records;
+    use crate::{calls, library};
+
+    const BUDGET: u32 = 10_000;
+
+    pub fn calls() -> [Call; 1] {
+        [Call {
+            name: "run_stepper",
+            limit: 2_048,
+            records: program_records,
+            library: |s| library::run_stepper(&mut s.buffer, s.used, &mut s.store, BUDGET).number,
+            other: |s| calls::run_stepper(&mut s.buffer, s.used, &mut s.store, BUDGET).number,
+        }]
+    }
+}
+
+mod reducer {
+    use super::Call;
+    use crate::extremes::closed_records;
+    use crate::{calls, library};
+
+    const BUDGET: u32 = 10_000;
+
+    pub fn calls() -> [Call; 1] {
+        [Call {
+            name: "run_reducer",
+            limit: 2_048,
+            records: closed_records,
+            library: |s| library::run_reducer(&mut s.buffer, s.used, BUDGET).number,
+            other: |s| calls::run_reducer(&mut s.buffer, s.used, BUDGET).number,
+        }]
+    }
+}

@@ -1,0 +1,83 @@
+//! The names and numbers of `include/vistrokk.h`, held to 01's table of refusals ("Where an order
+//! stops") and to the outcomes and limits that the other program has.
+
+use std::fs;
+use std::path::Path;
+
+use other::check::{Refusal, BUFFER_LIMIT};
+use other::run::Outcome;
+
+fn header() -> String {
+    let path = Path::new(env!("CARGO_MANIFEST_DIR")).join("../include/vistrokk.h");
+    fs::read_to_string(path).expect("the header")
+}
+
+/// Every `NAME = NUMBER` of an enum of the header, without the prefix of the name.
+fn enumerators(header: &str, name: &str) -> Vec<(String, u32)> {
+    let start = format!("enum {name} {{");
+    let from = header.find(&start).expect("the enum") + start.len();
+    let body = header[from..].split('}').next().expect("its end");
+    let without_comments: String = body
+        .split("/*")
+        .map(|part| part.split("*/").last().unwrap_or(part))
+        .collect();
+    let one = |entry: &str| {
+        let (name, number) = entry.split_once('=')?;
+        let name = name.trim().strip_prefix("VISTROKK_")?.to_string();
+        Some((name, number.trim().parse().expect("a number")))
+    };
+    without_comments.split(',').filter_map(one).collect()
+}
+
+/// `FreeVariable` as the header writes it: `FREE_VARIABLE`.
+fn in_capitals(name: impl std::fmt::Debug) -> String {
+    let mut capitals = String::new();
+    for letter in format!("{name:?}").chars() {
+        if letter.is_uppercase() && !capitals.is_empty() {
+            capitals.push('_');
+        }
+        capitals.push(letter.to_ascii_uppercase());
+    }
+    capitals
+}
+
+#[test]
+fn the_refusals_have_01s_numbers() {
+    let mut wanted = vec![("ACCEPTED".to_string(), 0)];
+    let refusals = [
+        Refusal::BadBuffer,
+        Refusal::BadHeader,
+        Refusal::BadK,
+        Refusal::Malformed,
+        Refusal::BadVariable,
+        Refusal::BadStore,
+        Refusal::FreeVariable,
+        Refusal::Unfinished,
+        Refusal::NoProgram,
+        Refusal::OutputTooShort,
+    ];
+    wanted.extend(refusals.map(|refusal| (in_capitals(refusal), refusal.number())));
+    assert_eq!(enumerators(&header(), "vistrokk_refusal"), wanted);
+}
+
+#[test]
+fn the_outcomes_have_their_numbers() {
+    let outcomes = [
+        Outcome::Refused,
+        Outcome::Finished,
+        Outcome::Over,
+        Outcome::NoRoom,
+        Outcome::Spent,
+    ];
+    let wanted = outcomes.map(|outcome| (in_capitals(outcome), outcome.number()));
+    assert_eq!(enumerators(&header(), "vistrokk_outcome"), wanted);
+}
+
+#[test]
+fn the_limits_are_01s() {
+    let limits = [("BUFFER_MOST", BUFFER_LIMIT), ("VARIABLES_MOST", 16)];
+    for (name, limit) in limits {
+        let line = format!("\n#define VISTROKK_{name} {limit}\n");
+        assert!(header().contains(&line), "{name}");
+    }
+}
