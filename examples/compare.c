@@ -37,6 +37,7 @@ static const char *const refusals[] = {
     [VISTROKK_MALFORMED] = "malformed",
     [VISTROKK_BAD_VARIABLE] = "bad variable",
     [VISTROKK_BAD_STORE] = "bad store",
+    [VISTROKK_BAD_RULE] = "bad rule",
     [VISTROKK_FREE_VARIABLE] = "free variable",
     [VISTROKK_UNFINISHED] = "unfinished",
     [VISTROKK_NO_PROGRAM] = "no program",
@@ -81,14 +82,14 @@ static uint32_t word(const uint8_t *at)
     return at[0] | (uint32_t) at[1] << 8 | (uint32_t) at[2] << 16 | (uint32_t) at[3] << 24;
 }
 
-/* ADD, and a store whose first value comes from the scales. */
+/* ADD, and a store whose first value comes from the scales: 130 kg are 10 over 6 · 20, so 7 by the nearest 20. */
 static uint32_t weighed(void)
 {
     uint32_t number;
     memcpy(start.record, add, sizeof add);
     start.used = sizeof add;
     start.k = 4;
-    number = vistrokk_weigh(1500, 1360, start.store, start.k);
+    number = vistrokk_weigh(VISTROKK_ROUND_NEAREST, 1500, 1370, start.store, start.k);
     start.store[1] = 3;
     return number;
 }

@@ -13,11 +13,13 @@ const BAD_BUFFER: u32 = 1;
 const BAD_HEADER: u32 = 2;
 const BAD_STORE: u32 = 6;
 
+const ROUND_NEAREST: u32 = 2;
+
 const FINISHED: u32 = 1;
 const SPENT: u32 = 4;
 
 /// The refusals by name, in the order of their numbers.
-const REFUSALS: [&str; 11] = [
+const REFUSALS: [&str; 12] = [
     "accepted",
     "bad buffer",
     "bad header",
@@ -29,6 +31,7 @@ const REFUSALS: [&str; 11] = [
     "unfinished",
     "no program",
     "output too short",
+    "bad rule",
 ];
 
 /// The outcomes by name, in the order of their numbers.
@@ -62,7 +65,13 @@ struct Ran {
 
 extern "C" {
     fn vistrokk_check_program(buf: *const u8, buf_len: usize, used: usize) -> Checked;
-    fn vistrokk_weigh(gross: u32, tare: u32, store: *mut u32, store_len: usize) -> u32;
+    fn vistrokk_weigh(
+        rule: u32,
+        gross: u32,
+        tare: u32,
+        store: *mut u32,
+        store_len: usize,
+    ) -> u32;
     fn vistrokk_translate(
         src: *const u8,
         src_len: usize,
@@ -102,8 +111,8 @@ fn check_program(buf: &[u8], used: usize) -> Checked {
     unsafe { vistrokk_check_program(buf.as_ptr(), buf.len(), used) }
 }
 
-fn weigh(gross: u32, tare: u32, store: &mut [u32]) -> u32 {
-    unsafe { vistrokk_weigh(gross, tare, store.as_mut_ptr(), store.len()) }
+fn weigh(rule: u32, gross: u32, tare: u32, store: &mut [u32]) -> u32 {
+    unsafe { vistrokk_weigh(rule, gross, tare, store.as_mut_ptr(), store.len()) }
 }
 
 fn translate(src: &[u8], used: usize, out: &mut [u8]) -> Written {
@@ -153,10 +162,11 @@ fn accepted(call: &'static str, number: u32) -> Result<(), Refused> {
     }
 }
 
-/// ADD, and a store whose first value comes from the scales.
+/// ADD, and a store whose first value comes from the scales: 130 kg are 10 over 6 · 20, so 7 by the
+/// nearest 20.
 fn weighed() -> Result<Load, Refused> {
     let mut store = vec![0; 4];
-    accepted("the load", weigh(1_500, 1_360, &mut store))?;
+    accepted("the load", weigh(ROUND_NEAREST, 1_500, 1_370, &mut store))?;
     store[1] = 3;
     let record = ADD.to_vec();
     Ok(Load { record, store })

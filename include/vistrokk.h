@@ -25,7 +25,7 @@ extern "C" {
 #define VISTROKK_BUFFER_MOST 16384
 #define VISTROKK_VARIABLES_MOST 16
 
-/* The refusals: the number that a call answers. They are tested in this order. */
+/* The refusals: the number that a call answers. They are tested in the order of this list, which is not that of the numbers. */
 enum vistrokk_refusal {
     VISTROKK_ACCEPTED = 0,
     VISTROKK_BAD_BUFFER = 1,       /* a buffer above 16,384 bytes, or `used` above its buffer */
@@ -34,6 +34,7 @@ enum vistrokk_refusal {
     VISTROKK_MALFORMED = 4,        /* bytes outside the grammar, variable numbers disregarded */
     VISTROKK_BAD_VARIABLE = 5,     /* a variable number not 1 to k */
     VISTROKK_BAD_STORE = 6,        /* the store has not k values; weighing: not 1 to 16 */
+    VISTROKK_BAD_RULE = 11,        /* weighing: a rule number other than 1 or 2 */
     VISTROKK_FREE_VARIABLE = 7,    /* a free variable in the term */
     VISTROKK_UNFINISHED = 8,       /* the term is not finished */
     VISTROKK_NO_PROGRAM = 9,       /* no program translates to the term */
@@ -67,9 +68,16 @@ vistrokk_written vistrokk_substitute(uint8_t *buf, size_t buf_len, size_t used, 
  * was. Writes the store alone. */
 uint32_t vistrokk_result(const uint8_t *buf, size_t buf_len, size_t used, uint32_t *store, size_t store_len);
 
-/* A start store from gross and tare in kilograms: variable 1 gets (gross - tare) / 20, rounded down, 0 if tare is the larger;
- * every other variable 0. Answers VISTROKK_ACCEPTED, or VISTROKK_BAD_STORE with the store as it was. */
-uint32_t vistrokk_weigh(uint32_t gross, uint32_t tare, uint32_t *store, size_t store_len);
+/* The rules of weighing. A reprint names the rule of its first print. */
+enum vistrokk_rule {
+    VISTROKK_ROUND_DOWN = 1,   /* to the lower 20 kg */
+    VISTROKK_ROUND_NEAREST = 2 /* to the nearest 20 kg; 10 kg over goes up */
+};
+
+/* A start store from gross and tare in kilograms: variable 1 gets (gross - tare) / 20, 0 if tare is the larger, rounded by the
+ * rule; every other variable 0. Any gross and tare will do: nothing wraps. Answers VISTROKK_ACCEPTED, or VISTROKK_BAD_STORE or
+ * VISTROKK_BAD_RULE with the store as it was. Writes the store alone. */
+uint32_t vistrokk_weigh(uint32_t rule, uint32_t gross, uint32_t tare, uint32_t *store, size_t store_len);
 
 /* The outcomes of a run, read from the state that is left, first match. Over: the next step would give 4,294,967,296. No room:
  * the next state is longer than the buffer. Spent: the whole budget was used, and a further step is possible. */

@@ -193,9 +193,11 @@ fn agree_on_term(Lending { buffer, used }: &Lending, values: &[u32], budget: u32
     let number = store::result(buffer, *used, &mut shown);
     assert_eq!(number, calls::result(buffer, *used, &mut other_shown));
     assert_eq!(shown, other_shown);
-    let number = store::weigh(budget, 20, &mut shown);
-    assert_eq!(number, calls::weigh(budget, 20, &mut other_shown));
-    assert_eq!(shown, other_shown);
+    for rule in 0..4 {
+        let number = store::weigh(rule, budget, 20, &mut shown);
+        assert_eq!(number, calls::weigh(rule, budget, 20, &mut other_shown));
+        assert_eq!(shown, other_shown);
+    }
     let (mut buf, mut other_buf) = (buffer.clone(), buffer.clone());
     let ran = reducer::run_reducer(&mut buf, *used, budget);
     assert_eq!(ran, calls::run_reducer(&mut other_buf, *used, budget));

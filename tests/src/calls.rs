@@ -1,6 +1,6 @@
 //! Every call over bytes: the nine functions of `include/vistrokk.h`.
 //!
-//! Each one tests its rows in 01's order before it changes anything. A refusal gives its number
+//! Each one tests its rows in the table's order before it changes anything. A refusal gives its number
 //! and 0 for everything else, and leaves every lent slice as it came. After an accepted call the
 //! bytes of a written buffer past the new used length are zero (01, "Records").
 
@@ -190,17 +190,32 @@ fn numerals(buf: &[u8], used: usize, places: usize) -> Result<Vec<u32>, Refusal>
     finished_values(&record.term).ok_or(Refusal::Unfinished)
 }
 
-// Row 6 alone.
+// Rows 6, 11.
 
-/// Variable 1 gets the net weight in units of 20 kg, rounded down, and every other variable 0
-/// (01, "Result and weighing").
-pub fn weigh(gross: u32, tare: u32, store: &mut [u32]) -> u32 {
+/// Variable 1 gets the net load in units of 20 kg, rounded by the rule, and every other variable 0
+/// (01, "Result and weighing"; 02, C-11).
+pub fn weigh(rule: u32, gross: u32, tare: u32, store: &mut [u32]) -> u32 {
     if !(1..=16).contains(&store.len()) {
         return Refusal::BadStore.number();
     }
+    let Some(count) = rounded(rule, gross.saturating_sub(tare)) else {
+        return Refusal::BadRule.number();
+    };
     store.fill(0);
-    store[0] = gross.saturating_sub(tare) / 20;
+    store[0] = count;
     0
+}
+
+/// Rule 1 rounds down; rule 2 rounds to the nearest 20 kg, and 10 kg over goes up. There is no
+/// other.
+fn rounded(rule: u32, net: u32) -> Option<u32> {
+    let (down, over) = (net / 20, net % 20);
+    match rule {
+        1 => Some(down),
+        2 if over < 10 => Some(down),
+        2 => Some(down + 1),
+        _ => None,
+    }
 }
 
 // Shared.

@@ -1,8 +1,9 @@
-//! Rows 1 to 5 of 01, "Where an order stops", and the numbers of all ten.
+//! Rows 1 to 5 of 01, "Where an order stops", and the numbers of all: 01's ten and 02's.
 
 use crate::codec::Record;
 
-/// Why a call is refused, by the names of `include/vistrokk.h`; the discriminant is 01's number.
+/// Why a call is refused, by the names of `include/vistrokk.h` and in the order of the table, 01's with 02's
+/// rows at their places; the discriminant is the number.
 #[derive(Clone, Copy, Debug, PartialEq, Eq)]
 pub enum Refusal {
     /// A buffer above 16,384 bytes, or a used length above its buffer.
@@ -17,6 +18,8 @@ pub enum Refusal {
     BadVariable = 5,
     /// A store of other than k values (weighing: of other than 1 to 16).
     BadStore = 6,
+    /// Weighing: a rule number other than 1 or 2 (02, C-11: after refusal 6).
+    BadRule = 11,
     /// A free variable.
     FreeVariable = 7,
     /// Not finished.

@@ -1,5 +1,6 @@
 //! The names and numbers of `include/vistrokk.h`, held to 01's table of refusals ("Where an order
-//! stops") and to the outcomes and limits that the other program has.
+//! stops"), with 02's rows at their places, and to the outcomes and limits that the other program
+//! has.
 
 use std::fs;
 use std::path::Path;
@@ -41,8 +42,9 @@ fn in_capitals(name: impl std::fmt::Debug) -> String {
     capitals
 }
 
+/// In the table's order, which the header promises: 11 stands behind 6.
 #[test]
-fn the_refusals_have_01s_numbers() {
+fn the_refusals_have_their_numbers_in_the_order_of_the_table() {
     let mut wanted = vec![("ACCEPTED".to_string(), 0)];
     let refusals = [
         Refusal::BadBuffer,
@@ -51,6 +53,7 @@ fn the_refusals_have_01s_numbers() {
         Refusal::Malformed,
         Refusal::BadVariable,
         Refusal::BadStore,
+        Refusal::BadRule,
         Refusal::FreeVariable,
         Refusal::Unfinished,
         Refusal::NoProgram,
@@ -71,6 +74,14 @@ fn the_outcomes_have_their_numbers() {
     ];
     let wanted = outcomes.map(|outcome| (in_capitals(outcome), outcome.number()));
     assert_eq!(enumerators(&header(), "vistrokk_outcome"), wanted);
+}
+
+/// 02, C-11: rule 1 rounds down, rule 2 to the nearest.
+#[test]
+fn the_rules_have_02s_numbers() {
+    let wanted = [("ROUND_DOWN", 1), ("ROUND_NEAREST", 2)];
+    let wanted = wanted.map(|(name, number)| (name.to_string(), number));
+    assert_eq!(enumerators(&header(), "vistrokk_rule"), wanted);
 }
 
 #[test]

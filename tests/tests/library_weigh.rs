@@ -1,42 +1,70 @@
 //! The library's weighing against the other program's. Every call goes through `both`, which
-//! compares; `runs.rs` states values of 01.
+//! compares; `runs.rs` states values of 01 and 02.
 
-use other::both::weigh;
+use other::both::{run_reducer, run_stepper, substitute, translate, weigh};
 use other::check::Refusal;
+use other::codec::Record;
+use other::generate::lend;
+use other::generate::programs::program;
 use other::random::{cases, Counts, Random};
 
-/// Weights at which something changes: 20 kg and its multiples, and the ends of the range.
-const WEIGHTS: [u32; 14] = [
+/// The two rules, and numbers that are none: one below, one above, the largest.
+const RULES: [u32; 5] = [0, 1, 2, 3, u32::MAX];
+
+/// Weights at which something changes: 20 kg and its multiples, 9 and 10 over them, and the ends of
+/// the range, where 10 more is no value.
+const WEIGHTS: [u32; 24] = [
     0,
     1,
+    9,
+    10,
+    11,
     19,
     20,
     21,
+    29,
+    30,
+    31,
     39,
     40,
     1_500,
+    1_509,
+    1_510,
     1_519,
     1_520,
     1 << 31,
     u32::MAX - 20,
-    u32::MAX - 19,
+    u32::MAX - 10,
+    u32::MAX - 9,
+    u32::MAX - 5,
     u32::MAX,
 ];
 
-/// Each pair of them, in stores of every length to beyond 16.
+/// What a weighing was answered: accepted by rule 1, by rule 2, refused for the store, for the rule.
+fn kind(rule: u32, number: u32) -> usize {
+    match number {
+        0 => rule as usize - 1,
+        _ if number == Refusal::BadStore.number() => 2,
+        _ => 3,
+    }
+}
+
+/// Each pair of them by each rule, in stores of every length to beyond 16: 576 pairs, 16 lengths
+/// that are taken and 25 that are not.
 #[test]
 fn every_pair_of_weights_in_every_store() {
-    let seen = Counts::<2>::default();
-    for gross in WEIGHTS {
-        for tare in WEIGHTS {
-            for len in 0..=40 {
-                let mut store: Vec<u32> = (1..=len).collect();
-                let number = weigh(gross, tare, &mut store);
-                seen.one(usize::from(number == Refusal::BadStore.number()));
-            }
+    let seen = Counts::<4>::default();
+    for (rule, gross) in RULES.iter().flat_map(|rule| WEIGHTS.map(|w| (*rule, w))) {
+        for (tare, len) in WEIGHTS
+            .iter()
+            .flat_map(|w| (0..=40).map(move |len| (*w, len)))
+        {
+            let mut store: Vec<u32> = (1..=len).collect();
+            let number = weigh(rule, gross, tare, &mut store);
+            seen.one(kind(rule, number));
         }
     }
-    seen.assert_at_least([3_136, 4_900]);
+    seen.assert_at_least([576 * 16, 576 * 16, 576 * 25 * 5, 576 * 16 * 3]);
 }
 
 /// A weight: any, a small one, or a few kilograms from the other.
@@ -48,19 +76,61 @@ fn weight(random: &mut Random, other: u32) -> u32 {
     }
 }
 
+/// A rule: mostly one of the two.
+fn rule(random: &mut Random) -> u32 {
+    match random.below(8) {
+        0 => random.word(),
+        1 => *random.pick(&RULES),
+        n => 1 + n as u32 % 2,
+    }
+}
+
 #[test]
 fn generated_weights() {
-    let seen = Counts::<3>::default();
+    let seen = Counts::<4>::default();
     cases(100_000, |random| {
         let gross = random.word() >> random.below(32);
         let tare = weight(random, gross);
+        let rule = rule(random);
         let mut store: Vec<u32> = (0..random.below(20)).map(|_| random.word()).collect();
-        let number = weigh(gross, tare, &mut store);
-        match (number, store.first()) {
-            (0, Some(0)) => seen.one(0),
-            (0, _) => seen.one(1),
-            _ => seen.one(2),
+        let number = weigh(rule, gross, tare, &mut store);
+        seen.one(kind(rule, number));
+        if number == 0 {
+            // 02, C-11: the count times 20 is less than 20 kg from the net load.
+            let net = u64::from(gross.saturating_sub(tare));
+            assert!((20 * u64::from(store[0])).abs_diff(net) < 20);
         }
     });
-    seen.assert_at_least([5_000, 5_000, 5_000]);
+    seen.assert_at_least([5_000, 5_000, 5_000, 5_000]);
+}
+
+/// 02, C-11: the engines take the store either gives, where it has k values.
+#[test]
+fn the_engines_take_a_weighed_store() {
+    let seen = Counts::<3>::default();
+    cases(2_000, |random| {
+        let program = program(random, 300);
+        let record = program.encode();
+        let mut store = vec![random.word(); program.k as usize];
+        let rule = 1 + random.below(2) as u32;
+        let gross = random.word() >> random.below(32);
+        assert_eq!(weigh(rule, gross, weight(random, gross), &mut store), 0);
+        seen.one(rule as usize - 1);
+
+        let mut term = vec![0; 16_384];
+        let written = translate(&record, record.len(), &mut term);
+        if written.number == 0 {
+            seen.one(2);
+            let written = substitute(&mut term, written.used as usize, &store);
+            assert_eq!(written.number, 0);
+            let ran = run_reducer(&mut term, written.used as usize, 50);
+            assert_eq!(ran.number, 0);
+        }
+        let mut buffer = lend(&record, record.len() + 500);
+        assert_eq!(
+            run_stepper(&mut buffer, record.len(), &mut store, 50).number,
+            0
+        );
+    });
+    seen.assert_at_least([500, 500, 1_500]);
 }

@@ -315,9 +315,21 @@ fn result_and_its_rows() {
     }
 }
 
-/// (gross − tare) / 20 rounded down, 0 if tare is the larger, and 0 in every other variable.
+/// What an accepted weighing leaves in stores of 1, 2 and 16 values: the count in variable 1, 0 in
+/// every other.
+fn weighs(rule: u32, gross: u32, tare: u32, count: u32) {
+    for len in [1, 2, 16] {
+        let mut store = vec![77; len];
+        let mut wanted = vec![0; len];
+        wanted[0] = count;
+        assert_eq!(weigh(rule, gross, tare, &mut store), 0);
+        assert_eq!(store, wanted, "{gross} less {tare} by rule {rule}");
+    }
+}
+
+/// Rule 1: (gross − tare) / 20 rounded down, 0 if tare is the larger (01, "Result and weighing").
 #[test]
-fn weighing() {
+fn weighing_rounded_down() {
     let weights = [
         (19, 0, 0),
         (20, 0, 1),
@@ -333,18 +345,54 @@ fn weighing() {
         (u32::MAX, u32::MAX - 20, 1),
     ];
     for (gross, tare, count) in weights {
-        for len in [1, 2, 16] {
+        weighs(1, gross, tare, count);
+    }
+}
+
+/// Rule 2 (02, C-11): to the nearest 20 kg, and 10 kg over goes up; 0 if tare is the larger.
+/// 4,294,967,295 is 214,748,364 · 20 + 15; less 5 it is 10 over and less 6 it is 9 over.
+#[test]
+fn weighing_to_the_nearest() {
+    let weights = [
+        (9, 0, 0),
+        (10, 0, 1),
+        (20, 0, 1),
+        (29, 0, 1),
+        (30, 0, 2),
+        (1_509, 1_500, 0),
+        (1_510, 1_500, 1),
+        (1_500, 1_500, 0),
+        (1_500, 1_501, 0),
+        (1_500, 1_510, 0),
+        (0, u32::MAX, 0),
+        (u32::MAX, 0, 214_748_365),
+        (u32::MAX - 5, 0, 214_748_365),
+        (u32::MAX - 6, 0, 214_748_364),
+        (u32::MAX, 6, 214_748_364),
+        (u32::MAX, u32::MAX - 10, 1),
+        (u32::MAX, u32::MAX - 9, 0),
+    ];
+    for (gross, tare, count) in weights {
+        weighs(2, gross, tare, count);
+    }
+}
+
+/// Row 6, then row 11: not 1 to 16 values is 6 whatever the rule, and else a rule other than 1 or 2
+/// is 11. A refusal leaves the store as it came.
+#[test]
+fn weighing_and_its_rows() {
+    for len in [0, 1, 2, 15, 16, 17, 18, 300] {
+        for rule in [0, 1, 2, 3, 11, 1 << 8 | 1, 1 << 31 | 2, u32::MAX] {
+            let wanted = match (len, rule) {
+                (1..=16, 1 | 2) => 0,
+                (1..=16, _) => 11,
+                _ => 6,
+            };
             let mut store = vec![77; len];
-            let mut wanted = vec![0; len];
-            wanted[0] = count;
-            assert_eq!(weigh(gross, tare, &mut store), 0);
-            assert_eq!(store, wanted, "{gross} less {tare}");
-        }
-        for len in [0, 17, 18, 300] {
-            let mut store = vec![77; len];
-            let refused = weigh(gross, tare, &mut store);
-            assert_eq!(refused, Refusal::BadStore.number());
-            assert!(store.iter().all(|value| *value == 77));
+            assert_eq!(weigh(rule, 1_540, 1_500, &mut store), wanted);
+            if wanted != 0 {
+                assert_eq!(store, vec![77; len], "rule {rule}");
+            }
         }
     }
 }

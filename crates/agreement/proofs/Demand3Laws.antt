@@ -3,17 +3,13 @@ use Prim.Native.Nat.{ℕ, _≤_}
 use mathlib.Core.Path.{ap, refl, subst, sym, _∙_, _≡_}
 use mathlib.Core.List.{List, map}
 use mathlib.Core.Option.{Option·map, Option·some-injective, some}
-use lib.Dec.{T}
 use lib.ListN.{length, take}
-use Rattle.record.specs.Answers.{Checked, Wrote, padded}
+use Rattle.record.specs.Answers.{Wrote, checkProgram}
 use Rattle.record.specs.declared.Header.{Header}
-use Rattle.record.specs.Header.{HeaderFits, encodeTerm, okOf}
-use Rattle.record.specs.Holding.{ProgramIn, TermIn}
-use Rattle.record.specs.Record.{end}
-use Rattle.record.specs.Rows.{headerOf, holds}
-use Rattle.rules.specs.FreeVariables.{allVars}
+use Rattle.record.specs.Header.{encodeTerm, okOf}
+use Rattle.record.specs.Holding.{ProgramIn}
+use Rattle.record.specs.Rows.{headerOf}
 use Rattle.rules.specs.Reduction.{onNext, reduce}
-use Rattle.rules.specs.Rules.{at}
 use Rattle.rules.specs.Run.{iterate}
 use Rattle.rules.specs.Scope.{ConfigWithin}
 use Rattle.rules.specs.Sound.{SoundConfig}
@@ -21,21 +17,18 @@ use Rattle.rules.specs.Step.{step}
 use Rattle.rules.specs.Substitution.{fromStore, stateOf, substitute, substituteAtom}
 use Rattle.rules.specs.Syntax.{Answer, Atom, Block, Config, assign, empty, finished, loop, nest, next, num, over, tuple}
 use Rattle.rules.specs.Translation.{all, translate}
-use Rattle.run.specs.RunAnswer.{accepted}
-use Rattle.term.specs.Calls.{substituteCall, substituted, translateCall}
-use Rattle.record.proofs.PaddedLaws.{take-padded}
-use Rattle.record.proofs.HeldLaws.{take-fits}
 use Rattle.record.proofs.HeaderLaws.{ok-limit}
-use Rattle.record.proofs.HoldingLaws.{check-program, checked-fits, checked-holds, program-header, program-k, program-size, program-words, term-words}
+use Rattle.record.proofs.HoldingLaws.{check-program, program-elsewhere, program-header, program-k, program-words, term-words}
 use Rattle.reducer.proofs.RunReducerLaws.{reducer-number, reducer-passes, reducer-takes}
 use Rattle.rules.proofs.LockStep.{lock-step, lock-steps}
 use Rattle.rules.proofs.SoundTermLaws.{sound-stateOf}
 use Rattle.rules.proofs.SubstitutionLaws.{substitute-all}
 use Rattle.stepper.proofs.RunStepperLaws.{stepper-number, stepper-passes, stepper-takes}
-use Rattle.term.proofs.CallLaws.{stored-size, substitute-gives, substitute-size, translate-holds, translate-length, translate-out, translate-writes}
+use Rattle.term.proofs.CallLaws.{stored-size}
 use Rattle.agreement.specs.Demand3.{Agree, Demand3, Demand3Calls, Demand3Refusals, Refuses, Start, startWorld}
-use Rattle.agreement.specs.Examples.{budget}
 use Rattle.agreement.specs.Orders.{AllAllowed, World, play}
+use Rattle.agreement.specs.WeighedStore.{TermLent}
+use Rattle.agreement.proofs.StartLaws.{engines-take, program-holds, translates}
 use Rattle.agreement.proofs.Play.{ReducerStands, StepperStands, reducer-stands, stepper-stands}
 
 -- WHAT IS READ FROM THE TWO STATES, where the one is the other's translation with the store substituted
@@ -117,15 +110,12 @@ module _ (hd : Header) (c₀ : Config) (sound : SoundConfig (okOf hd) (hd .k) c�
 
 module _ (hd : Header) (P : Block) (μ : List ℕ) (s : Start hd P μ) where
   -- the header, and the program's record, in the buffer that the checker accepted
-  accepted-header : HeaderFits hd
-  accepted-header = checked-fits hd (s .checkBuf) (s .checkUsed) (s .checked)
-
   accepted-program : ProgramIn hd P (s .checkBuf) (s .checkUsed)
-  accepted-program = checked-holds hd P (s .checkBuf) (s .checkUsed) accepted-header (ap (λ (c : Checked). c .number) (s .checked)) (s .program) (s .programWords)
+  accepted-program = program-holds hd P (s .checkBuf) (s .checkUsed) (s .checked) (s .program) (s .programWords)
 
   -- an accepted store has k values
   accepted-store : length μ ≡ hd .k
-  accepted-store = stored-size hd (translate (hd .k) P) (s .termBuf) (s .termUsed) μ accepted-header (s .term) (s .substituted)
+  accepted-store = stored-size hd (translate (hd .k) P) (s .termBuf) (s .termUsed) μ (accepted-program .header) (s .term) (s .substituted)
 
   first : SoundConfig (okOf hd) (hd .k) (record { block = P; store = μ })
   first = record {
@@ -140,12 +130,7 @@ module _ (hd : Header) (P : Block) (μ : List ℕ) (s : Start hd P μ) where
     state = record { block = P; store = μ };
     reached = refl;
     holds = record {
-      program = record {
-        within = take-fits (s .checkUsed) (s .stepperBuf) (ap length (s .stepperBegins) ∙ sym (program-size accepted-program));
-        header = accepted-header;
-        bytes = s .stepperBegins;
-        isProgram = accepted-program .isProgram;
-      };
+      program = program-elsewhere accepted-program (s .stepperBuf) (s .stepperBegins);
       store = refl;
       sound = first;
     };
@@ -158,7 +143,7 @@ module _ (hd : Header) (P : Block) (μ : List ℕ) (s : Start hd P μ) where
     reached = refl;
     holds = record {
       within = s .reducerFits;
-      header = accepted-header;
+      header = accepted-program .header;
       bytes = s .reducerBegins ∙ ap (encodeTerm hd) (sym (state-is (hd .k) (record { block = P; store = μ })));
       sound = sound-stateOf (okOf hd) (ok-limit hd) (hd .k) (record { block = P; store = μ }) first;
     };
@@ -190,36 +175,14 @@ demand3-calls k cb cu hb checked out tw te tz μ hμ sw se sz sb hs rb fits hr o
     let hd : Header = headerOf cb cu in
     let h : ProgramIn hd P cb cu = subst (λ (x : Header). ProgramIn x P cb cu) (sym (program-header (p .1 .3))) (p .1 .3) in
     let is-k : k ≡ hd .k = sym (program-k (p .1 .3) ∙ p .1 .2) in
-    let lo = translate-out cb cu out (sym (ap (λ (x : Wrote). x .number) te) ∙ tz) in
-    let z : (translateCall cb cu out) .number ≡ 0 = sym (ap (λ (x : Wrote). x .number) te) ∙ tz in
-    let T : List ℕ = encodeTerm hd (translate (hd .k) P) in
-    let wrote : tw ≡ record { number = 0; used = length T; written = padded (length out) T } = te ∙ translate-writes h (p .0) out lo z in
-    let term : TermIn allVars hd (translate (hd .k) P) (tw .written) (tw .used) =
-    subst (λ (x : Wrote). TermIn allVars hd (translate (hd .k) P) (x .written) (x .used)) (sym wrote) (translate-holds h (p .0) out lo z) in
-    let low : length (tw .written) ≤ 16384 = rw (ap (λ (x : Wrote). length (x .written)) wrote ∙ translate-length h (p .0) out lo z) lo in
-    let accepted : (substituteCall (tw .written) (tw .used) μ) .number ≡ 0 = sym (ap (λ (x : Wrote). x .number) se) ∙ sz in
-    let size = stored-size hd (translate (hd .k) P) (tw .written) (tw .used) μ (h .header) (term .bytes) accepted in
-    let S : List ℕ = encodeTerm hd (substitute (fromStore μ) (translate (hd .k) P)) in
-    let gives : sw ≡ record { number = 0; used = tw .used; written = padded (length (tw .written)) S } = se ∙ substitute-gives term low μ size in
-    let used : sw .used ≡ length S = ap (λ (x : Wrote). x .used) gives ∙ sym (substitute-size term μ) in
-    let begins : take (sw .used) rb ≡ S =
-    hr ∙ ap (λ (x : Wrote). take (sw .used) (x .written)) gives ∙ ap (λ n. take n (padded (length (tw .written)) S)) used ∙ take-padded (length (tw .written)) S in
-    let s : Start hd P μ = record {
-      checkBuf = cb;
-      checkUsed = cu;
-      checked = checked ∙ ap (λ (n : ℕ). record { number = 0; k = n }) is-k;
-      program = h .bytes;
-      programWords = program-words h;
-      termBuf = tw .written;
-      termUsed = tw .used;
-      term = term .bytes;
-      substituted = accepted;
-      storeValues = hμ;
-      stepperBuf = sb;
-      stepperBegins = hs ∙ h .bytes;
-      reducerBuf = rb;
-      reducerUsed = sw .used;
-      reducerFits = fits;
-      reducerBegins = begins;
-    } in
-    rw ew (demand3 hd P μ s os (subst (λ (n : ℕ). AllAllowed n os) is-k a) (rw ew at e))
+    let is-checked : checkProgram cb cu ≡ record { number = 0; k = hd .k } = checked ∙ ap (λ (n : ℕ). record { number = 0; k = n }) is-k in
+    let term : TermLent hd P (tw .written) (tw .used) =
+    subst (λ (x : Wrote). TermLent hd P (x .written) (x .used)) (sym te) (translates hd P cb cu is-checked (h .bytes) (program-words h) out (sym (ap (λ (x : Wrote). x .number) te) ∙ tz)) in
+    let size = stored-size hd (translate (hd .k) P) (tw .written) (tw .used) μ (h .header) (term .bytes) (sym (ap (λ (x : Wrote). x .number) se) ∙ sz) in
+    let s = engines-take hd P cb cu is-checked (h .bytes) (program-words h) μ size hμ .start (tw .written) (tw .used) term sb hs rb
+    (subst (λ (x : Wrote). x .used ≤ length rb) se fits) (subst (λ (x : Wrote). take (x .used) rb ≡ take (x .used) (x .written)) se hr) in
+    let begins : record { stepperBuf = sb; store = μ; stepperUsed = cu; stepperTotal = 0; reducerBuf = rb; reducerUsed = sw .used; reducerTotal = 0 } ≡ startWorld hd P μ (s .0) =
+    ap (λ (x : Wrote). record { stepperBuf = sb; store = μ; stepperUsed = cu; stepperTotal = 0; reducerBuf = rb; reducerUsed = x .used; reducerTotal = 0 }) se ∙ sym (s .1) in
+    let after : w ≡ play (startWorld hd P μ (s .0)) os = ew ∙ ap (λ (x : World). play x os) begins in
+    subst (Agree hd) (sym after)
+    (demand3 hd P μ (s .0) os (subst (λ (n : ℕ). AllAllowed n os) is-k a) (subst (λ (x : World). x .stepperTotal ≡ x .reducerTotal) after e))

@@ -1,7 +1,9 @@
 pub mod Demand1Laws
 pub mod Demand2Laws
 pub mod Play
+pub mod StartLaws
 pub mod Demand3Laws
 pub mod ExamplesLaws
 pub mod AddStepsLaws
+pub mod WeighedStoreLaws
 pub mod Witness

@@ -1,5 +1,5 @@
 -- WITNESSES, by computing. Demand 3's hypotheses can be met: a start, and a list with refused orders in it after which the two totals
--- are equal. And the two engines' room may give out at different totals.
+-- are equal; and those of C-11's theorem about weighed stores. And the two engines' room may give out at different totals.
 use Prim.Native.Nat.{ℕ}
 use mathlib.Core.Path.{refl, sym, _∙_, _≡_}
 use mathlib.Core.List.{_++_, List, [], _∷_}
@@ -33,7 +33,10 @@ use Rattle.agreement.specs.Demand3.{Agree, Demand3, Start, startWorld}
 use Rattle.agreement.specs.Examples.{acceptedValues, add, budget, configOf, endingOfReducer, endingOfStepper, expected, examples, ofVariables, programBytesOf, reducerEnding, reducerExpected, shown, shownBy, shownFrom, stepperEnding, substitutedOf, translatedOf}
 use Rattle.agreement.specs.Orders.{Order, afterReducer, afterStepper, lentStore, order, other, own, play, storeAfter, toReducer, toStepper, usedAfter}
 use Rattle.agreement.specs.RoomsDiffer.{RoomsDiffer}
+use Rattle.agreement.specs.WeighedStore.{EnginesTake, WeighedStore}
+use Rattle.weighing.specs.Weigh.{badRule, badSize, countOf, netLoad, weighCall, weighed}
 use Rattle.agreement.proofs.Demand3Laws.{demand3}
+use Rattle.agreement.proofs.WeighedStoreLaws.{weighed-store}
 
 -- P1, in a stepper's buffer of 160 bytes and a reducer's of 400, with nines behind the records
 pub witness : Start (ofVariables 4) add (7 ∷ 3 ∷ 0 ∷ 0 ∷ [])
@@ -84,6 +87,13 @@ unfolding Demand3
 agreed =
     demand3 (ofVariables 4) add (7 ∷ 3 ∷ 0 ∷ 0 ∷ []) witness orders (tt, (tt, (tt, ((λ e. let z : 0 ≡ 4 = e in omega arith), (tt, (tt, tt))))))
     (totals .stepper ∙ sym (totals .reducer))
+
+-- A WEIGHED STORE: 1,500 kg less 1,370 kg are 10 over six twenties, so 7 by rule 2; into four values, for ADD
+
+pub weighed-witness : EnginesTake (ofVariables 4) add (witness .checkBuf) 64 (7 ∷ 0 ∷ 0 ∷ 0 ∷ [])
+unfolding WeighedStore witness weighCall weighed countOf netLoad badSize badRule inRange storedBy firstRow pickRow
+weighed-witness =
+    weighed-store 2 1500 1370 (9 ∷ 9 ∷ 9 ∷ 9 ∷ []) (lit< tt) refl (ofVariables 4) add (witness .checkBuf) 64 (witness .checked) (witness .program) (witness .programWords) refl
 
 -- ROOMS: ADD on 7, 4, 0, 0, both buffers of 172 bytes, as many as the term's record has
 

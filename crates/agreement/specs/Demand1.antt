@@ -1,35 +1,52 @@
--- DEMAND 1: whoever hands in a program, a term or a store, sound or damaged, gets an outcome or one of ten numbered refusals,
--- and a refusal changes no byte that was lent. (That each call ends is part of every function's proof.)
-use Prim.Native.Nat.{ℕ, _≤_}
+-- DEMAND 1: whoever hands in a program, a term or a store, sound or damaged, gets an outcome or one of the numbered refusals, 01's
+-- ten and those that 02 adds, and a refusal changes no byte that was lent. (That each call ends is part of every function's proof.)
+use Prim.Native.Nat.{ℕ}
 use mathlib.Core.Path.{_≡_}
-use mathlib.Core.Logic.{_↔_}
-use mathlib.Core.List.{List}
+use mathlib.Core.Logic.{_↔_, _⊎_}
+use mathlib.Core.Bool.{true}
+use mathlib.Core.List.{List, [], map, _∷_}
 use Rattle.record.specs.Answers.{checkProgram, checkProgramRows, checkTerm, checkTermRows}
 use Rattle.record.specs.Rows.{First, NoRow, Row, firstRow}
+use Rattle.record.specs.Table.{Place, inTable, numbersAt}
+use Rattle.record.specs.Table as table
 use Rattle.reducer.specs.RunReducer.{reducerRows, runReducer}
 use Rattle.run.specs.RunAnswer.{refusal}
 use Rattle.stepper.specs.RunStepper.{runStepper, stepperRows}
 use Rattle.term.specs.Calls.{readBackCall, readBackRows, resultCall, resultRows, substituteCall, substituteRows, translateCall, translateRows}
 use Rattle.weighing.specs.Weigh.{weighCall, weighRows}
 
--- n is at most 10; it is 0 exactly where no row of the call applies, and else the number of the first that does.
-pub record Numbers (rows : List Row) (n : ℕ) : Type 0 where
-  pub ten : n ≤ 10
+-- WHERE THE CALLS STAND IN THE TABLE
+
+-- What a call that is lent a record has, and then more.
+abbrev pub ofRecord : List Place → List Place
+ofRecord more = table.buffers ∷ table.header ∷ table.records ∷ more
+
+-- A call's rows are those that the table has for its places, in the table's order; n is 0 or a number of the table: 0 exactly where
+-- no row of the call applies, and else the number of the first that does.
+pub record Numbers (places : List Place) (rows : List Row) (n : ℕ) : Type 0 where
+  pub ordered : map (λ (r : Row). r .number) rows ≡ numbersAt places
+  pub listed : (n ≡ 0) ⊎ (inTable n ≡ true)
   pub none : (n ≡ 0) ↔ NoRow rows
   pub first : First rows n
 
 -- The demand, of each of the nine calls and whatever is lent.
 pub record Demand1 : Type 0 where
   -- every call gives the first row of its own that applies
-  pub checkProgramNumber : (buf : List ℕ) (used : ℕ) → Numbers (checkProgramRows buf used) ((checkProgram buf used) .number)
-  pub checkTermNumber : (buf : List ℕ) (used : ℕ) → Numbers (checkTermRows buf used) ((checkTerm buf used) .number)
-  pub translateNumber : (src : List ℕ) (used : ℕ) (out : List ℕ) → Numbers (translateRows src used out) ((translateCall src used out) .number)
-  pub readBackNumber : (src : List ℕ) (used : ℕ) (out : List ℕ) → Numbers (readBackRows src used out) ((readBackCall src used out) .number)
-  pub substituteNumber : (buf : List ℕ) (used : ℕ) (store : List ℕ) → Numbers (substituteRows buf used store) ((substituteCall buf used store) .number)
-  pub stepperNumber : (buf : List ℕ) (used : ℕ) (store : List ℕ) (budget : ℕ) → Numbers (stepperRows buf used store) ((runStepper buf used store budget) .answer .number)
-  pub reducerNumber : (buf : List ℕ) (used budget : ℕ) → Numbers (reducerRows buf used) ((runReducer buf used budget) .answer .number)
-  pub resultNumber : (buf : List ℕ) (used : ℕ) (store : List ℕ) → Numbers (resultRows buf used store) ((resultCall buf used store) .number)
-  pub weighNumber : (gross tare : ℕ) (store : List ℕ) → Numbers (weighRows store) ((weighCall gross tare store) .number)
+  pub checkProgramNumber : (buf : List ℕ) (used : ℕ) → Numbers (ofRecord []) (checkProgramRows buf used) ((checkProgram buf used) .number)
+  pub checkTermNumber : (buf : List ℕ) (used : ℕ) → Numbers (ofRecord []) (checkTermRows buf used) ((checkTerm buf used) .number)
+  pub translateNumber : (src : List ℕ) (used : ℕ) (out : List ℕ)
+      → Numbers (ofRecord (table.translator ∷ [])) (translateRows src used out) ((translateCall src used out) .number)
+  pub readBackNumber : (src : List ℕ) (used : ℕ) (out : List ℕ)
+      → Numbers (ofRecord (table.readBack ∷ [])) (readBackRows src used out) ((readBackCall src used out) .number)
+  pub substituteNumber : (buf : List ℕ) (used : ℕ) (store : List ℕ)
+      → Numbers (ofRecord (table.store ∷ [])) (substituteRows buf used store) ((substituteCall buf used store) .number)
+  pub stepperNumber : (buf : List ℕ) (used : ℕ) (store : List ℕ) (budget : ℕ)
+      → Numbers (ofRecord (table.store ∷ [])) (stepperRows buf used store) ((runStepper buf used store budget) .answer .number)
+  pub reducerNumber : (buf : List ℕ) (used budget : ℕ) → Numbers (ofRecord (table.reducer ∷ [])) (reducerRows buf used) ((runReducer buf used budget) .answer .number)
+  pub resultNumber : (buf : List ℕ) (used : ℕ) (store : List ℕ)
+      → Numbers (ofRecord (table.store ∷ table.result ∷ [])) (resultRows buf used store) ((resultCall buf used store) .number)
+  pub weighNumber : (rule gross tare : ℕ) (store : List ℕ)
+      → Numbers (table.store ∷ table.weighing ∷ []) (weighRows rule store) ((weighCall rule gross tare store) .number)
   -- a refusal gives its number and 0 for everything else, and leaves every slice as it came
   pub checkProgramRefused : (buf : List ℕ) (used : ℕ) → (firstRow (checkProgramRows buf used) ≡ 0 → ⊥)
       → checkProgram buf used ≡ record { number = firstRow (checkProgramRows buf used); k = 0 }
@@ -47,5 +64,5 @@ pub record Demand1 : Type 0 where
       → runReducer buf used budget ≡ record { answer = refusal (firstRow (reducerRows buf used)); buf = buf }
   pub resultRefused : (buf : List ℕ) (used : ℕ) (store : List ℕ) → (firstRow (resultRows buf used store) ≡ 0 → ⊥)
       → resultCall buf used store ≡ record { number = firstRow (resultRows buf used store); store = store }
-  pub weighRefused : (gross tare : ℕ) (store : List ℕ) → (firstRow (weighRows store) ≡ 0 → ⊥)
-      → weighCall gross tare store ≡ record { number = firstRow (weighRows store); store = store }
+  pub weighRefused : (rule gross tare : ℕ) (store : List ℕ) → (firstRow (weighRows rule store) ≡ 0 → ⊥)
+      → weighCall rule gross tare store ≡ record { number = firstRow (weighRows rule store); store = store }

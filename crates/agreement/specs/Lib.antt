@@ -5,3 +5,4 @@ pub mod Demand3
 pub mod Examples
 pub mod AddSteps
 pub mod RoomsDiffer
+pub mod WeighedStore

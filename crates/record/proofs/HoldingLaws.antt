@@ -24,10 +24,10 @@ use Rattle.record.specs.Holding.{IsProgram, ProgramIn, TermIn}
 use Rattle.record.specs.Program.{BlockWords}
 use Rattle.record.specs.Rows.{NoRow, Row, badBlock, badBuffer, badHeader, badStore, badTerm, blockOf, blockOutside, finishedTerm, firstRow, headerOf, kOf, openTerm, programOf, programRows, row, termOf, termOutside, termRows, theTermOf, unfinished}
 use Rattle.record.specs.Term.{TermWords, encodeTermRecord}
-use Rattle.record.proofs.AnswerLaws.{checked-accepted, checked-number}
+use Rattle.record.proofs.AnswerLaws.{check-program-number, checked-accepted, checked-number}
 use Rattle.record.proofs.PaddedLaws.{fits-padded, take-padded}
 use Rattle.record.proofs.HeaderLaws.{blockIn-bytes, blockIn-sound, kField-headed, length-blockBytes, length-encodeTermRecord, ok-word, termIn-bytes, termIn-sound, word-ok}
-use Rattle.record.proofs.HeldLaws.{bytes-contents, good-buffer, good-eight, good-header, good-k, good-store, header-fits, header-whole, held-contents, held-header, held-is, held-k, held-passes, held-size, held-used, held-whole}
+use Rattle.record.proofs.HeldLaws.{bytes-contents, good-buffer, good-eight, good-header, good-k, good-store, header-fits, header-whole, held-contents, held-header, held-is, held-k, held-passes, held-size, held-used, held-whole, take-fits}
 use Rattle.record.proofs.RowLaws.{first-behind, first-none, holds-some, is-some, isNone-some, none-first, none-split, not-intro, numbered, orElse-some}
 use Rattle.record.proofs.WordsLaws.{block-words, sound-words, words-small, words-sound}
 
@@ -53,6 +53,15 @@ module _ {h : Header} {P : Block} {buf : List ℕ} {used : ℕ} (p : ProgramIn h
 
   pub program-size : used ≡ length (encodeProgram h P)
   program-size = sym (length-take-le used buf (p .within)) ∙ ap length (p .bytes)
+
+  -- the same record in another buffer
+  pub program-elsewhere : (other : List ℕ) → take used other ≡ encodeProgram h P → ProgramIn h P other used
+  program-elsewhere other e = record {
+    within = take-fits used other (ap length e ∙ sym program-size);
+    header = p .header;
+    bytes = e;
+    isProgram = p .isProgram;
+  }
 
   pub program-k : kOf buf used ≡ h .k
   program-k = held-k program h (p .header) (blockBytes P) buf used (p .within) program-headed
@@ -251,7 +260,10 @@ check-term k buf used hb = (
       ∙ ap (λ (n : ℕ). record { number = 0; k = n }) (term-k p ∙ v .1 .2)),
 )
 
--- a header whose k it gives has passed
+-- a buffer that it accepts is not too long, and a header whose k it gives has passed
+pub checked-low : (buf : List ℕ) (used : ℕ) → (checkProgram buf used) .number ≡ 0 → length buf ≤ 16384
+checked-low buf used e = good-buffer buf used (first-none (checkProgramRows buf used) refl (sym (check-program-number buf used) ∙ e) .0) .low
+
 pub checked-fits : (h : Header) (buf : List ℕ) (used : ℕ) → checkProgram buf used ≡ record { number = 0; k = h .k } → HeaderFits h
 unfolding checkProgram
 checked-fits h buf used e =

@@ -1,22 +1,20 @@
 -- Laws of a list of rows: the first that applies, and none.
-use Prim.Native.Nat.{ℕ, _≤_}
-use mathlib.Core.Path.{refl, _∙_, _≡_}
-use mathlib.Core.Logic.{inl, inr}
+use Prim.Native.Nat.{ℕ}
+use mathlib.Core.Path.{ap, refl, sym, _∙_, _≡_}
+use mathlib.Core.Logic.{inl, inr, _⊎_}
 use mathlib.Core.Bool.{_&&_, Bool, false, not, true, _||_}
 use mathlib.Core.List.{_++_, List, [], _∷_}
 use mathlib.Core.Option.{Option, none, some}
-use borrow.Author.Tests.{leb-true}
-use lib.Dec.{leb}
-use native.Mathlib.Omega.{arith}
 use Rattle.rules.proofs.Tests.{and-both, true-false}
+use Rattle.record.specs.Table.{inTable}
 use Rattle.record.specs.Rows.{First, NoRow, Row, firstRow, holds, isNone, orElse, pickRow, row}
 
 -- THE FIRST ROW
 
--- the numbers of a list of rows are 1 to 10
+-- each number of a list of rows stands in the table
 abbrev pub numbered : List Row → Bool
 numbered [] = true
-numbered (r ∷ rs) = (leb 1 (r .number) && leb (r .number) 10) && numbered rs
+numbered (r ∷ rs) = inTable (r .number) && numbered rs
 
 pub first-applies : (n : ℕ) (b : Bool) (more : List Row) → b ≡ true → firstRow (row n b ∷ more) ≡ n
 unfolding firstRow pickRow
@@ -60,28 +58,25 @@ first-first (r ∷ rs) = go (r .applies) refl (first-first rs)
     go true e ih = inl (e, refl)
     go false e ih = inr (e, ih)
 
--- where the first row that applies has number 0 there is none, and its number is at most 10
+-- where the first row that applies has number 0 there is none, for 0 does not stand in the table
 first-zero : (rs : List Row) (n : ℕ) → numbered rs ≡ true → First rs n → n ≡ 0 → NoRow rs
 first-zero [] n h f e = tt
 first-zero (r ∷ rs) n h (inl v) e =
-    let p = and-both (leb 1 (r .number) && leb (r .number) 10) (numbered rs) h in
-    let s = and-both (leb 1 (r .number)) (leb (r .number) 10) (p .0) in
-    absurd (omega (arith, leb-true 1 (r .number) (s .0), v .1))
-first-zero (r ∷ rs) n h (inr v) e = let p = and-both (leb 1 (r .number) && leb (r .number) 10) (numbered rs) h in (v .0, first-zero rs n (p .1) (v .1) e)
+    let p = and-both (inTable (r .number)) (numbered rs) h in
+    true-false (sym (p .0) ∙ ap inTable (sym (v .1) ∙ e))
+first-zero (r ∷ rs) n h (inr v) e = (v .0, first-zero rs n (and-both (inTable (r .number)) (numbered rs) h .1) (v .1) e)
 
 pub first-none : (rs : List Row) → numbered rs ≡ true → firstRow rs ≡ 0 → NoRow rs
 first-none rs h e = first-zero rs (firstRow rs) h (first-first rs) e
 
-first-most : (rs : List Row) (n : ℕ) → numbered rs ≡ true → First rs n → n ≤ 10
-first-most [] n h f = omega arith
-first-most (r ∷ rs) n h (inl v) =
-    let p = and-both (leb 1 (r .number) && leb (r .number) 10) (numbered rs) h in
-    let s = and-both (leb 1 (r .number)) (leb (r .number) 10) (p .0) in
-    omega (arith, leb-true (r .number) 10 (s .1), v .1)
-first-most (r ∷ rs) n h (inr v) = first-most rs n (and-both (leb 1 (r .number) && leb (r .number) 10) (numbered rs) h .1) (v .1)
+-- the number of the first row that applies stands in the table
+first-of : (rs : List Row) (n : ℕ) → numbered rs ≡ true → First rs n → (n ≡ 0) ⊎ (inTable n ≡ true)
+first-of [] n h f = inl f
+first-of (r ∷ rs) n h (inl v) = inr (ap inTable (v .1) ∙ and-both (inTable (r .number)) (numbered rs) h .0)
+first-of (r ∷ rs) n h (inr v) = first-of rs n (and-both (inTable (r .number)) (numbered rs) h .1) (v .1)
 
-pub first-ten : (rs : List Row) → numbered rs ≡ true → firstRow rs ≤ 10
-first-ten rs h = first-most rs (firstRow rs) h (first-first rs)
+pub first-listed : (rs : List Row) → numbered rs ≡ true → (firstRow rs ≡ 0) ⊎ (inTable (firstRow rs) ≡ true)
+first-listed rs h = first-of rs (firstRow rs) h (first-first rs)
 
 -- TESTS
 

@@ -5,6 +5,7 @@ pub mod Fix
 pub mod Program
 pub mod Term
 pub mod Header
+pub mod Table
 pub mod Rows
 pub mod Answers
 pub mod Front

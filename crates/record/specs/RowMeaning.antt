@@ -1,4 +1,5 @@
--- WHAT EACH ROW'S TEST SAYS, in plain facts (01 "Where an order stops"). Rows 9 and 10 are the translator's (`term`).
+-- WHAT EACH ROW'S TEST SAYS, in plain facts (01 "Where an order stops"). Rows 9 and 10 are the translator's (`term`), row
+-- 11 and a row 6 of its own weighing's (`weighing`).
 use Prim.Native.Nat.{_<_, ℕ, _≤_}
 use mathlib.Core.Path.{_≡_}
 use mathlib.Core.Logic.{_↔_, _⊎_}

@@ -1,4 +1,5 @@
--- THE TABLE OF REFUSALS (01 "Where an order stops"): each row as a test of what is lent, and the first that applies.
+-- THE ROWS OF THE TABLE OF REFUSALS (01 "Where an order stops"; their places and order: `Table`): each as a test of what is lent, and
+-- the first that applies.
 use Prim.Native.Nat.{ℕ}
 use mathlib.Core.Path.{_≡_}
 use mathlib.Core.Logic.{_⊎_}

@@ -1,4 +1,5 @@
-// The numbers of the refusals, in the order of 01's table ("Where an order stops"); include/vistrokk.h has the same names.
+// The numbers of the refusals, in the order of the table (01 "Where an order stops", with the rows of 02; specs/Table);
+// include/vistrokk.h has the same names.
 
 // A buffer that is too long, or a used length above its buffer.
 pub const BAD_BUFFER: u32 = 1;
@@ -17,6 +18,9 @@ pub const BAD_VARIABLE: u32 = 5;
 
 // A store that has not the number of values asked for.
 pub const BAD_STORE: u32 = 6;
+
+// A rule number of weighing other than 1 or 2 (02 C-11).
+pub const BAD_RULE: u32 = 11;
 
 // A free variable.
 pub const FREE_VARIABLE: u32 = 7;

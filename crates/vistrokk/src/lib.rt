@@ -53,10 +53,10 @@ pub extern "C" fn vistrokk_result(buf: &[u8], used: usize, store: &mut [u32]) ->
 }
 
 #[no_mangle]
-pub extern "C" fn vistrokk_weigh(gross: u32, tare: u32, store: &mut [u32]) -> u32
-    ensures { λ r. ⌜ (r ≡ (weighCall gross tare (now (store .entry))) .number) × (now (store .exit) ≡ (weighCall gross tare (now (store .entry))) .store) ⌝ }
+pub extern "C" fn vistrokk_weigh(rule: u32, gross: u32, tare: u32, store: &mut [u32]) -> u32
+    ensures { λ r. ⌜ (r ≡ (weighCall rule gross tare (now (store .entry))) .number) × (now (store .exit) ≡ (weighCall rule gross tare (now (store .entry))) .store) ⌝ }
 {
-    weighing::weigh(gross, tare, store)
+    weighing::weigh(rule, gross, tare, store)
 }
 
 #[no_mangle]

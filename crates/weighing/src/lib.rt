@@ -1,13 +1,20 @@
-// Weighing: gross and tare in kilograms give a start store (01 "Result and weighing").
+// Weighing: gross and tare in kilograms, and a rule of rounding, give a start store (01 "Result and weighing", 02 C-11).
 ghost use mathlib.Core.Path.{_≡_};
 ghost use Prim.Native.Nat.{_≤_};
 ghost use lib.ListN.{length};
 ghost use Rattle.weighing.specs.Weigh.{countOf, netLoad, weighCall, weighed};
 use record::limit::VARIABLES;
+use record::refusal::BAD_RULE;
 use record::refusal::BAD_STORE;
 
 // The most values that a store has.
 const MOST: usize = VARIABLES as usize;
+
+// Rule 1: rounded down.
+const DOWN: u32 = 1;
+
+// Rule 2: rounded to the nearest 20, and 10 over goes up.
+const NEAREST: u32 = 2;
 
 // The test stands before the difference because a u32 has no number below 0.
 pub fn net_load(gross: u32, tare: u32) -> u32
@@ -16,11 +23,15 @@ pub fn net_load(gross: u32, tare: u32) -> u32
     if tare <= gross { gross - tare } else { 0 }
 }
 
-// The quotient of two u32 is rounded down, as the count is.
-pub fn count_of(net: u32) -> u32
-    ensures { λ r. ⌜ r ≡ countOf net ⌝ }
+// A quotient is rounded down. By rule 2 the sum is one of 64 bits: 10 more than the largest value is no u32.
+pub fn count_of(rule: u32, net: u32) -> u32
+    ensures { λ r. ⌜ r ≡ countOf rule net ⌝ }
 {
-    net / 20
+    match rule {
+        DOWN => net / 20,
+        NEAREST => ((net as u64 + 10) / 20) as u32,
+        _ => 0,
+    }
 }
 
 // Variable 1 stands at index 0. A store with no value has no variable 1: weigh refuses it before it comes here.
@@ -36,16 +47,19 @@ fn fill(store: &mut [u32], count: u32)
     }
 }
 
-// The call. Row 6 is tested before anything is written, so that a refusal leaves the store as it came.
-pub fn weigh(gross: u32, tare: u32, store: &mut [u32]) -> u32
-    ensures { λ r. ⌜ (r ≡ (weighCall gross tare (now (store .entry))) .number) × (now (store .exit) ≡ (weighCall gross tare (now (store .entry))) .store) ⌝ }
+// The call. Rows 6 and 11 are tested before anything is written, so that a refusal leaves the store as it came.
+pub fn weigh(rule: u32, gross: u32, tare: u32, store: &mut [u32]) -> u32
+    ensures { λ r. ⌜ (r ≡ (weighCall rule gross tare (now (store .entry))) .number) × (now (store .exit) ≡ (weighCall rule gross tare (now (store .entry))) .store) ⌝ }
 {
     let n = store.len();
     match n {
-        1..=MOST => {
-            fill(store, count_of(net_load(gross, tare)));
-            0
-        }
+        1..=MOST => match rule {
+            DOWN..=NEAREST => {
+                fill(store, count_of(rule, net_load(gross, tare)));
+                0
+            }
+            _ => BAD_RULE,
+        },
         _ => BAD_STORE,
     }
 }

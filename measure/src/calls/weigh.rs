@@ -4,21 +4,25 @@ use super::row;
 use crate::plain;
 use other::{calls, library};
 
+/// Each is handed what it cannot know: were the rule or the number of values seen through, the plain
+/// version would be made for just these.
 pub fn print() {
-    let [mut store, mut other_store, mut plain_store] = [[7; 16]; 3];
-    row(
-        "weigh",
-        "16 values",
-        &mut [
-            &mut || _ = black_box(library::weigh(black_box(40_000), 15_000, &mut store)),
-            &mut || _ = black_box(calls::weigh(black_box(40_000), 15_000, &mut other_store)),
-            &mut || {
-                _ = black_box(plain::store::weigh(
-                    black_box(40_000),
-                    15_000,
-                    &mut plain_store,
-                ))
-            },
-        ],
-    );
+    for (rule, on) in [(1, "rule 1, 16 values"), (2, "rule 2, 16 values")] {
+        let [mut store, mut other_store, mut plain_store] = [[7; 16]; 3];
+        let weights = || black_box((rule, 40_000, 15_000));
+        let mut library = || {
+            let (rule, gross, tare) = weights();
+            black_box(library::weigh(rule, gross, tare, black_box(&mut store)));
+        };
+        let mut other = || {
+            let (rule, gross, tare) = weights();
+            black_box(calls::weigh(rule, gross, tare, black_box(&mut other_store)));
+        };
+        let mut plain = || {
+            let (rule, gross, tare) = weights();
+            let store: &mut [u32] = &mut plain_store;
+            black_box(plain::store::weigh(rule, gross, tare, black_box(store)));
+        };
+        row("weigh", on, &mut [&mut library, &mut other, &mut plain]);
+    }
 }

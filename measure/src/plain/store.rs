@@ -24,11 +24,19 @@ pub fn result(buf: &[u8], used: usize, store: &mut [u32]) -> u32 {
     0
 }
 
-pub fn weigh(gross: u32, tare: u32, store: &mut [u32]) -> u32 {
+/// Not made a part of its caller, as a C function cannot be: a call is a good part of its time.
+#[inline(never)]
+pub fn weigh(rule: u32, gross: u32, tare: u32, store: &mut [u32]) -> u32 {
     if !(1..=16).contains(&store.len()) {
         return Refusal::BadStore.number();
     }
+    let net = gross.saturating_sub(tare);
+    let count = match rule {
+        1 => net / 20,
+        2 => net / 20 + net % 20 / 10,
+        _ => return Refusal::BadRule.number(),
+    };
     store.fill(0);
-    store[0] = gross.saturating_sub(tare) / 20;
+    store[0] = count;
     0
 }

@@ -5,13 +5,13 @@ use crate::calls;
 use crate::lent::Lent;
 use crate::library;
 
-pub fn weigh(gross: u32, tare: u32, store: &mut [u32]) -> u32 {
+pub fn weigh(rule: u32, gross: u32, tare: u32, store: &mut [u32]) -> u32 {
     let places = store.len();
-    let case = || format!("weigh, {gross} less {tare}, {places} values");
+    let case = || format!("weigh by rule {rule}, {gross} less {tare}, {places} values");
     let mut values = Lent::values(store);
-    let answer = calls::weigh(gross, tare, store);
+    let answer = calls::weigh(rule, gross, tare, store);
     same(
-        library::weigh(gross, tare, values.slice_mut()),
+        library::weigh(rule, gross, tare, values.slice_mut()),
         answer,
         case,
     );

@@ -85,8 +85,8 @@ mod weigh {
             name: "weigh",
             limit: 2_048,
             records: finished_record,
-            library: |s| library::weigh(40_000, 15_000, &mut s.store),
-            other: |s| calls::weigh(40_000, 15_000, &mut s.store),
+            library: |s| library::weigh(2, 40_000, 15_000, &mut s.store),
+            other: |s| calls::weigh(2, 40_000, 15_000, &mut s.store),
         }]
     }
 }

@@ -1,9 +1,9 @@
--- One law for each way out: filled, and row 6 below 1 and above 16.
+-- One law for each way out: filled; row 11 below 1 and above 2; row 6 below 1 and above 16.
 use borrow.Author.Needs.{needs}
 use Rattle.weighing.proofs.weigh.Statement.{statement}
 use Rattle.weighing.proofs.weigh.Tie as tie
 use native.Mathlib.Omega.{arith}
-use Rattle.weighing.proofs.WeighLaws.{weigh-filled, weigh-six}
+use Rattle.weighing.proofs.WeighLaws.{weigh-eleven, weigh-filled, weigh-six}
 
 net-load-requires : tie.Need-net-load-requires
 net-load-requires c κs = search needs
@@ -19,22 +19,32 @@ same-length c = search needs
 
 returns : tie.Need-returns
 returns c =
-    let a = c .before .before .before .before .before .before .before .before .before .args in
+    let a = c .before .before .before .before .before .before .before .before .before .before .before .args in
     let net = c .before .before .before .before .net-load in
     let count = c .before .before .before .count-of in
     let fill = c .before .before .fill in
-    weigh-filled (a .gross) (a .tare) (net .result) (count .result) (a .store .now) (fill .last .0) (omega arith, omega arith)
-    (net .ensures) (count .ensures) (fill .ensures)
+    weigh-filled (a .rule) (a .gross) (a .tare) (net .result) (count .result) (a .store .now) (fill .last .0)
+    (omega arith, omega arith) (omega arith, omega arith) (net .ensures) (count .ensures) (fill .ensures)
 
 returns-2 : tie.Need-returns-2
 returns-2 c =
-    let a = c .before .before .args in
-    weigh-six (a .gross) (a .tare) (a .store .now) (λ w. omega arith)
+    let a = c .before .before .before .before .args in
+    weigh-eleven (a .rule) (a .gross) (a .tare) (a .store .now) (omega arith, omega arith) (λ w. omega arith)
 
 returns-3 : tie.Need-returns-3
 returns-3 c =
+    let a = c .before .before .before .before .before .args in
+    weigh-eleven (a .rule) (a .gross) (a .tare) (a .store .now) (omega arith, omega arith) (λ w. omega arith)
+
+returns-4 : tie.Need-returns-4
+returns-4 c =
+    let a = c .before .before .args in
+    weigh-six (a .rule) (a .gross) (a .tare) (a .store .now) (λ w. omega arith)
+
+returns-5 : tie.Need-returns-5
+returns-5 c =
     let a = c .before .before .before .args in
-    weigh-six (a .gross) (a .tare) (a .store .now) (λ w. omega arith)
+    weigh-six (a .rule) (a .gross) (a .tare) (a .store .now) (λ w. omega arith)
 
 pub weigh-spec : {M : Type 1} → statement M
 weigh-spec =
@@ -46,4 +56,6 @@ weigh-spec =
     same-length
     returns
     returns-2
-    returns-3)
+    returns-3
+    returns-4
+    returns-5)

@@ -1,0 +1,54 @@
+-- "THE ENGINES TAKE THE STORE EITHER GIVES, where it has k values" (02 C-11; either: of the two rules). Over the calls, both rules at
+-- once.
+use Prim.Native.Nat.{_<_, ℕ, _≤_}
+use mathlib.Core.Path.{_≡_}
+use mathlib.Core.List.{List}
+use lib.ListN.{length, take}
+use Rattle.record.specs.Answers.{checkProgram}
+use Rattle.record.specs.declared.Header.{Header}
+use Rattle.record.specs.Header.{encodeProgram, encodeTerm}
+use Rattle.record.specs.Program.{BlockWords}
+use Rattle.reducer.specs.RunReducer.{runReducer}
+use Rattle.rules.specs.Syntax.{Block}
+use Rattle.rules.specs.Translation.{translate}
+use Rattle.stepper.specs.RunStepper.{runStepper}
+use Rattle.term.specs.Calls.{substituteCall, translateCall}
+use Rattle.weighing.specs.Weigh.{weighCall}
+use Rattle.agreement.specs.Demand3.{Start, startWorld}
+
+-- The record of the program's term stands first in a buffer that is not too long.
+pub record TermLent (h : Header) (P : Block) (buf : List ℕ) (used : ℕ) : Type 0 where
+  pub low : length buf ≤ 16384
+  pub within : used ≤ length buf
+  pub bytes : take used buf ≡ encodeTerm h (translate (h .k) P)
+
+-- The engines take the store μ for the program P, whose record with the header h is the first cu bytes of cb.
+pub record EnginesTake (h : Header) (P : Block) (cb : List ℕ) (cu : ℕ) (μ : List ℕ) : Type 0 where
+  -- the stepper's run accepts it, with any budget, in every buffer that begins with the program's record and is not too long
+  pub stepper : (buf : List ℕ) (budget : ℕ) → length buf ≤ 16384 → take cu buf ≡ take cu cb → (runStepper buf cu μ budget) .answer .number ≡ 0
+  -- substituting it in the program's term is accepted; and what translate writes, where it accepts, is that term
+  pub substitutes : (buf : List ℕ) (used : ℕ) → TermLent h P buf used → (substituteCall buf used μ) .number ≡ 0
+  pub translates : (out : List ℕ) → (translateCall cb cu out) .number ≡ 0 → TermLent h P ((translateCall cb cu out) .written) ((translateCall cb cu out) .used)
+  -- the reducer's run accepts what substituting left, with any budget
+  pub reducer : (buf : List ℕ) (used : ℕ) → TermLent h P buf used → (budget : ℕ)
+      → (runReducer ((substituteCall buf used μ) .written) ((substituteCall buf used μ) .used) budget) .answer .number ≡ 0
+  -- so it is a start of demand 3: with any two buffers that begin with the program's record and with what substituting left
+  pub start : (buf : List ℕ) (used : ℕ) → TermLent h P buf used → (stepperBuf : List ℕ) → take cu stepperBuf ≡ take cu cb
+      → (reducerBuf : List ℕ) → (substituteCall buf used μ) .used ≤ length reducerBuf
+      → take ((substituteCall buf used μ) .used) reducerBuf ≡ take ((substituteCall buf used μ) .used) ((substituteCall buf used μ) .written)
+      → (s : Start h P μ) × (startWorld h P μ s ≡ record {
+        stepperBuf = stepperBuf;
+        store = μ;
+        stepperUsed = cu;
+        stepperTotal = 0;
+        reducerBuf = reducerBuf;
+        reducerUsed = (substituteCall buf used μ) .used;
+        reducerTotal = 0;
+      })
+
+-- Of every accepted weighing of a gross that is a value, by whichever rule, and every accepted program of as many variables as it
+-- gives values. (That a program is accepted is said as at demand 3's start.)
+unfoldable pub WeighedStore : Type 0
+WeighedStore = (rule gross tare : ℕ) (store : List ℕ) → gross < 4294967296 → (weighCall rule gross tare store) .number ≡ 0
+    → (h : Header) (P : Block) (cb : List ℕ) (cu : ℕ) → checkProgram cb cu ≡ record { number = 0; k = h .k } → take cu cb ≡ encodeProgram h P → BlockWords P
+    → length store ≡ h .k → EnginesTake h P cb cu ((weighCall rule gross tare store) .store)
