@@ -17,7 +17,7 @@ use Rattle.weighing.specs.Weigh.{weighCall, weighRows}
 
 -- WHERE THE CALLS STAND IN THE TABLE
 
--- What a call that is lent a record has, and then more.
+-- The places of a call that is lent a record in a buffer: those of every such call, and then more.
 abbrev pub ofRecord : List Place → List Place
 ofRecord more = table.buffers ∷ table.header ∷ table.records ∷ more
 
