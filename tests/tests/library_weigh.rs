@@ -13,7 +13,7 @@ const RULES: [u32; 5] = [0, 1, 2, 3, u32::MAX];
 
 /// Weights at which something changes: 20 kg and its multiples, 9 and 10 over them, and the ends of
 /// the range, where 10 more is no value.
-const WEIGHTS: [u32; 24] = [
+const WEIGHTS: [u32; 25] = [
     0,
     1,
     9,
@@ -34,26 +34,28 @@ const WEIGHTS: [u32; 24] = [
     1_520,
     1 << 31,
     u32::MAX - 20,
+    u32::MAX - 19,
     u32::MAX - 10,
     u32::MAX - 9,
     u32::MAX - 5,
     u32::MAX,
 ];
 
-/// What a weighing was answered: accepted by rule 1, by rule 2, refused for the store, for the rule.
-fn kind(rule: u32, number: u32) -> usize {
+/// What a weighing was answered: accepted by rule 1 with a count of 0, with another, the same by
+/// rule 2, refused for the store, for the rule.
+fn kind(rule: u32, number: u32, store: &[u32]) -> usize {
     match number {
-        0 => rule as usize - 1,
-        _ if number == Refusal::BadStore.number() => 2,
-        _ => 3,
+        0 => 2 * (rule as usize - 1) + usize::from(store[0] > 0),
+        _ if number == Refusal::BadStore.number() => 4,
+        _ => 5,
     }
 }
 
-/// Each pair of them by each rule, in stores of every length to beyond 16: 576 pairs, 16 lengths
-/// that are taken and 25 that are not.
+/// Each pair of them by each rule, in stores of every length to beyond 16: 625 pairs, 16 lengths
+/// that are taken and 25 that are not. Of the pairs 325 have a tare that is no less than gross.
 #[test]
 fn every_pair_of_weights_in_every_store() {
-    let seen = Counts::<4>::default();
+    let seen = Counts::<6>::default();
     for (rule, gross) in RULES.iter().flat_map(|rule| WEIGHTS.map(|w| (*rule, w))) {
         for (tare, len) in WEIGHTS
             .iter()
@@ -61,10 +63,11 @@ fn every_pair_of_weights_in_every_store() {
         {
             let mut store: Vec<u32> = (1..=len).collect();
             let number = weigh(rule, gross, tare, &mut store);
-            seen.one(kind(rule, number));
+            seen.one(kind(rule, number, &store));
         }
     }
-    seen.assert_at_least([576 * 16, 576 * 16, 576 * 25 * 5, 576 * 16 * 3]);
+    let (zero, more) = (325 * 16, 200 * 16);
+    seen.assert_at_least([zero, more, zero, more, 625 * 25 * 5, 625 * 16 * 3]);
 }
 
 /// A weight: any, a small one, or a few kilograms from the other.
@@ -87,21 +90,21 @@ fn rule(random: &mut Random) -> u32 {
 
 #[test]
 fn generated_weights() {
-    let seen = Counts::<4>::default();
+    let seen = Counts::<6>::default();
     cases(100_000, |random| {
         let gross = random.word() >> random.below(32);
         let tare = weight(random, gross);
         let rule = rule(random);
         let mut store: Vec<u32> = (0..random.below(20)).map(|_| random.word()).collect();
         let number = weigh(rule, gross, tare, &mut store);
-        seen.one(kind(rule, number));
+        seen.one(kind(rule, number, &store));
         if number == 0 {
             // 02, C-11: the count times 20 is less than 20 kg from the net load.
             let net = u64::from(gross.saturating_sub(tare));
             assert!((20 * u64::from(store[0])).abs_diff(net) < 20);
         }
     });
-    seen.assert_at_least([5_000, 5_000, 5_000, 5_000]);
+    seen.assert_at_least([5_000; 6]);
 }
 
 /// 02, C-11: the engines take the store either gives, where it has k values.
