@@ -1,19 +1,25 @@
-//! So many steps of ADD by one engine of the library, for a count of instructions:
-//! `steps stepper|reducer BUDGET`. ./bench runs it under callgrind with two budgets and divides.
+//! So many steps of ADD, or of ADD with minus one in the place of plus one, by one engine of the
+//! library, for a count of instructions: `steps stepper|reducer add|subtract BUDGET`. ./bench runs
+//! it under callgrind with two budgets and divides.
 
 use std::hint::black_box;
 
 use other::codec::Record;
-use other::examples::add;
+use other::examples::{add, subtract};
 use other::generate::lend;
 use other::library;
 
 fn main() {
     let arguments: Vec<String> = std::env::args().collect();
-    let budget = arguments[2].parse().expect("a budget");
+    let program = match arguments[2].as_str() {
+        "add" => add(),
+        "subtract" => subtract(),
+        program => panic!("no such program: {program}"),
+    };
+    let budget = arguments[3].parse().expect("a budget");
     match arguments[1].as_str() {
         "stepper" => {
-            let record = add().encode();
+            let record = program.encode();
             let mut store = [7, 400, 0, 0];
             let mut buf = lend(&record, 16_384);
             black_box(library::run_stepper(
@@ -24,7 +30,7 @@ fn main() {
             ));
         }
         "reducer" => {
-            let (program, store) = (add(), vec![7, 200, 0, 0]);
+            let store = vec![7, 200, 0, 0];
             let config = other::run::stepper::Config { program, store };
             let record = config.term().encode();
             let mut buf = lend(&record, 16_384);

@@ -18,7 +18,18 @@ pub struct Example {
 
 /// k = 4, {x3 := x1; for x4 := 1 to x2 {x3 := x3 + 1}}
 pub fn add() -> Program {
-    let body = vec![Command::Assign(3, Expr::PlusOne(3))];
+    copy_then_repeat(Expr::PlusOne(3))
+}
+
+/// ADD with minus one in the place of plus one: x3 gets x1 less x2, or 0 where x2 is the larger. It
+/// takes ADD's steps.
+pub fn subtract() -> Program {
+    copy_then_repeat(Expr::MinusOne(3))
+}
+
+/// k = 4, {x3 := x1; for x4 := 1 to x2 {x3 := expr}}
+fn copy_then_repeat(expr: Expr) -> Program {
+    let body = vec![Command::Assign(3, expr)];
     let block = vec![
         Command::Assign(3, Expr::Variable(1)),
         Command::Loop(4, Bound::Variable(2), body),

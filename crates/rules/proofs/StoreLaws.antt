@@ -1,6 +1,6 @@
 -- Laws of values and stores.
 use Prim.Native.Nat.{_-_, _<_, suc, zero, ℕ, _≤_}
-use mathlib.Core.Path.{ap, refl, sym, _∙_, _≡_}
+use mathlib.Core.Path.{ap, refl, _∙_, _≡_}
 use mathlib.Core.Logic.{_↔_}
 use mathlib.Core.Bool.{Bool, false, true}
 use mathlib.Core.List.{List}
@@ -44,11 +44,7 @@ pub minusOne-passes : (ok : ℕ → Bool) → Limit ok → (n : ℕ) → ok n �
 minusOne-passes ok limit zero h = ap ok minusOne-zero ∙ h
 minusOne-passes ok limit (suc n) h = ap ok (minusOne-suc n) ∙ limit .belowPasses n h
 
--- as code works them out
-pub minusOne-less : (n : ℕ) → (n ≡ 0 → ⊥) → n - 1 ≡ minusOne n
-minusOne-less zero h = absurd (h refl)
-minusOne-less (suc n) h = let e : suc n - 1 ≡ n = omega arith in e ∙ sym (minusOne-suc n)
-
+-- a variable's value, found as code finds it
 pub lookup-index : (s : List ℕ) (x : ℕ) → 1 ≤ x → getD s (x - 1) 0 ≡ lookup s x
 unfolding lookup
 lookup-index s zero h = absurd (omega arith)

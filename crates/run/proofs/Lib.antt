@@ -2,3 +2,4 @@ pub mod RanLaws
 pub mod TallyLaws
 pub mod RepresentsLaws
 pub mod GoingLaws
+pub mod MinusOneLaws

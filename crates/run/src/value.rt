@@ -4,11 +4,13 @@ ghost use lib.ListN.{length};
 ghost use Rattle.rules.specs.Store.{lookup, minusOne};
 ghost use Rattle.rules.specs.Scope.{Within};
 
-// The engines' one place for minus one: 0 minus one is 0.
+// The engines' one place for minus one, with no test for zero (02 C-12): the quotient is 0 of 0 and 1 of every other value. The sum
+// is one of 64 bits: 32 do not hold it.
 pub fn minus_one(v: u32) -> u32
     ensures { λ r. ⌜ r ≡ minusOne v ⌝ }
 {
-    if v == 0 { 0 } else { v - 1 }
+    let value = v as u64;
+    (value - (value + 4294967295) / 4294967296) as u32
 }
 
 // The value of a variable. The store's first value is variable 1's.

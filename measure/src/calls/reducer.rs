@@ -4,7 +4,7 @@ use super::row;
 use crate::plain;
 use other::calls;
 use other::codec::Record;
-use other::examples::{add, nest_of_blocks, nest_of_loops, row_of_assignments};
+use other::examples::{add, nest_of_blocks, nest_of_loops, row_of_assignments, subtract};
 use other::generate::lend;
 use other::library;
 use other::run::stepper::Config;
@@ -14,6 +14,11 @@ pub fn print() {
     let runs = [
         ("ADD on 7, 3: 18 steps", add(), vec![7, 3, 0, 0]),
         ("ADD on 7, 200: 1,003 steps", add(), vec![7, 200, 0, 0]),
+        (
+            "with minus one: 1,003 steps",
+            subtract(),
+            vec![7, 200, 0, 0],
+        ),
         (
             "4 loops of 9: 23,780 steps",
             nest_of_loops(1, 9, 4),

@@ -4,17 +4,22 @@ use super::row;
 use crate::plain;
 use other::calls;
 use other::codec::Record;
-use other::examples::{add, nest_of_blocks, nest_of_loops, row_of_assignments};
+use other::examples::{add, nest_of_blocks, nest_of_loops, row_of_assignments, subtract};
 use other::generate::lend;
 use other::library;
 
-/// Runs to the end: ADD on 7, 3 takes 18 steps; on 7, 400 it has states of up to 14 KB; 23,780 small
-/// steps; 1,022 that each change the lengths of all blocks around; and 1,000 that each move all that is
-/// left.
+/// Runs to the end: ADD on 7, 3 takes 18 steps; on 7, 400 it has states of up to 14 KB, and so it has
+/// with minus one in the place of plus one; 23,780 small steps; 1,022 that each change the lengths of
+/// all blocks around; and 1,000 that each move all that is left.
 pub fn print() {
     let runs = [
         ("ADD on 7, 3: 18 steps", add(), vec![7, 3, 0, 0]),
         ("ADD on 7, 400: 2,003 steps", add(), vec![7, 400, 0, 0]),
+        (
+            "with minus one: 2,003 steps",
+            subtract(),
+            vec![7, 400, 0, 0],
+        ),
         (
             "4 loops of 9: 23,780 steps",
             nest_of_loops(1, 9, 4),

@@ -1,18 +1,22 @@
 use borrow.Author.Needs.{needs}
 use Rattle.run.proofs.value.minus_one.Statement.{statement}
 use Rattle.run.proofs.value.minus_one.Tie as tie
-use mathlib.Core.Path.{sym, ap, _∙_}
-use Rattle.rules.proofs.StoreLaws.{minusOne-less, minusOne-zero}
-use Rattle.rules.specs.Store.{minusOne}
+use native.Mathlib.Omega.{arith}
+use Rattle.run.proofs.MinusOneLaws.{minus-one-by-quotient}
+
+add-result : tie.Need-add-result
+add-result c = search needs
 
 sub-result : tie.Need-sub-result
-sub-result c = search needs
+sub-result c =
+    omega (arith, minus-one-by-quotient (c .args .v) (omega arith))
+
+cast-result : tie.Need-cast-result
+cast-result c = search needs
 
 returns : tie.Need-returns
-returns c = sym (ap minusOne (c .if1 .taken) ∙ minusOne-zero)
-
-returns-2 : tie.Need-returns-2
-returns-2 c = minusOne-less (c .before .args .v) (c .if1 .left)
+returns c =
+    omega (arith, minus-one-by-quotient (c .args .v) (omega arith))
 
 pub minus-one-spec : {M : Type 1} → statement M
-minus-one-spec = tie.close (tie.spec sub-result returns returns-2)
+minus-one-spec = tie.close (tie.spec add-result sub-result cast-result returns)
