@@ -1,6 +1,6 @@
 /* One program on both engines, as an integrator would write it: checked, translated, the store substituted, run in slices of
  * different lengths, and compared whenever both have made the same number of steps. It ends whatever the outcomes are, and names
- * them. `./test` builds and runs it:
+ * them, and how many variables became numerals: where the store was substituted, and in the reductions. `./test` builds and runs it:
  *
  *    cc -I include examples/compare.c target/staticlib/libvistrokk.a -o compare
  *    ./compare [FILE [BUDGET [STEPPER_ROOM [REDUCER_ROOM]]]]
@@ -9,6 +9,7 @@
  * most steps of each engine, 1,000,000 if not given. The rooms: the bytes of each engine's buffer, 16,384 if not given.
  * Exit status: 0 when both have stopped and agree, 1 with a refusal or where they differ, 2 if it cannot read what it was given.
  */
+#include <inttypes.h>
 #include <stdio.h>
 #include <stdlib.h>
 #include <string.h>
@@ -71,6 +72,10 @@ static load start;
 static engine stepper, reducer;
 static uint32_t store[VISTROKK_VARIABLES_MOST];
 
+/* How many variables became numerals: at the start, where the store was substituted, and in all orders of the reducer together. */
+static uint32_t replaced_at_start;
+static uint64_t replaced_by_reductions;
+
 static int refused(const char *call, uint32_t number)
 {
     fprintf(stderr, "%s: refused %u (%s)\n", call, (unsigned) number, refusals[number]);
@@ -118,11 +123,21 @@ static uint32_t taken_from(const uint8_t *bytes, size_t count)
     return VISTROKK_ACCEPTED;
 }
 
+/* An order to the reducer. What it replaced is added up; no order has in it what an earlier one told, nor the start's. */
+static vistrokk_ran reduce(size_t used, uint32_t budget)
+{
+    vistrokk_reduced r = vistrokk_run_reducer(reducer.buf, reducer.room, used, budget);
+    vistrokk_ran ran = { r.number, r.outcome, r.steps, r.left, r.used };
+    replaced_by_reductions += r.replaced;
+    return ran;
+}
+
 /* Both engines at their start: the stepper has the program and the store, the reducer the program's term with the store's values in
  * it. A budget of 0 makes no step: it tells where each engine stands. */
 static int begin(void)
 {
     vistrokk_written term;
+    vistrokk_substituted substituted;
     memcpy(stepper.buf, start.record, start.used);
     memcpy(store, start.store, sizeof store);
     stepper.last = vistrokk_run_stepper(stepper.buf, stepper.room, start.used, store, start.k, 0);
@@ -131,10 +146,11 @@ static int begin(void)
     term = vistrokk_translate(start.record, sizeof start.record, start.used, reducer.buf, reducer.room);
     if (term.number != VISTROKK_ACCEPTED)
         return refused("translate", term.number);
-    term = vistrokk_substitute(reducer.buf, reducer.room, term.used, store, start.k);
-    if (term.number != VISTROKK_ACCEPTED)
-        return refused("substitute", term.number);
-    reducer.last = vistrokk_run_reducer(reducer.buf, reducer.room, term.used, 0);
+    substituted = vistrokk_substitute(reducer.buf, reducer.room, term.used, store, start.k);
+    if (substituted.number != VISTROKK_ACCEPTED)
+        return refused("substitute", substituted.number);
+    replaced_at_start = substituted.replaced;
+    reducer.last = reduce(substituted.used, 0);
     if (reducer.last.number != VISTROKK_ACCEPTED)
         return refused("run_reducer", reducer.last.number);
     return 0;
@@ -159,10 +175,11 @@ static int agree(void)
 {
     static uint8_t wanted[VISTROKK_BUFFER_MOST];
     vistrokk_written w = vistrokk_translate(stepper.buf, stepper.room, stepper.last.used, wanted, sizeof wanted);
+    vistrokk_substituted s;
     if (w.number != VISTROKK_ACCEPTED)
         return 0;
-    w = vistrokk_substitute(wanted, sizeof wanted, w.used, store, start.k);
-    return w.number == VISTROKK_ACCEPTED && w.used == reducer.last.used && memcmp(wanted, reducer.buf, w.used) == 0;
+    s = vistrokk_substitute(wanted, sizeof wanted, w.used, store, start.k);
+    return s.number == VISTROKK_ACCEPTED && s.used == reducer.last.used && memcmp(wanted, reducer.buf, s.used) == 0;
 }
 
 /* One order to the engine that is behind, or to the other where that one has stopped; 0 where both have. */
@@ -175,7 +192,7 @@ static int next_order(void)
         return 1;
     }
     if (goes_on(&reducer)) {
-        reducer.last = vistrokk_run_reducer(reducer.buf, reducer.room, reducer.last.used, slice(&reducer, REDUCER_SLICE));
+        reducer.last = reduce(reducer.last.used, slice(&reducer, REDUCER_SLICE));
         reducer.steps += reducer.last.steps;
         return 1;
     }
@@ -211,8 +228,9 @@ static int compare(void)
         fprintf(stderr, "the engines show different results\n");
         return 1;
     }
-    printf("stepper %s after %u, reducer %s after %u, comparisons: %u, store:", outcomes[stepper.last.outcome],
+    printf("stepper %s after %u, reducer %s after %u, comparisons: %u, ", outcomes[stepper.last.outcome],
            (unsigned) stepper.steps, outcomes[reducer.last.outcome], (unsigned) reducer.steps, (unsigned) compared);
+    printf("replaced: %" PRIu32 " at the start and %" PRIu64 " by reductions, store:", replaced_at_start, replaced_by_reductions);
     for (i = 0; i < start.k; i++)
         printf(" %u", (unsigned) store[i]);
     printf("\n");

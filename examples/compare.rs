@@ -54,6 +54,13 @@ struct Written {
 }
 
 #[repr(C)]
+struct Substituted {
+    number: u32,
+    used: u32,
+    replaced: u32,
+}
+
+#[repr(C)]
 #[allow(dead_code)] // The budget left is not looked at here.
 struct Ran {
     number: u32,
@@ -61,6 +68,13 @@ struct Ran {
     steps: u32,
     left: u32,
     used: u32,
+}
+
+/// The fields of the header's struct in its order: a `Ran`'s, and the count.
+#[repr(C)]
+struct Reduced {
+    ran: Ran,
+    replaced: u64,
 }
 
 extern "C" {
@@ -85,7 +99,7 @@ extern "C" {
         used: usize,
         store: *const u32,
         store_len: usize,
-    ) -> Written;
+    ) -> Substituted;
     fn vistrokk_run_stepper(
         buf: *mut u8,
         buf_len: usize,
@@ -94,7 +108,7 @@ extern "C" {
         store_len: usize,
         budget: u32,
     ) -> Ran;
-    fn vistrokk_run_reducer(buf: *mut u8, buf_len: usize, used: usize, budget: u32) -> Ran;
+    fn vistrokk_run_reducer(buf: *mut u8, buf_len: usize, used: usize, budget: u32) -> Reduced;
     fn vistrokk_result(
         buf: *const u8,
         buf_len: usize,
@@ -119,7 +133,7 @@ fn translate(src: &[u8], used: usize, out: &mut [u8]) -> Written {
     unsafe { vistrokk_translate(src.as_ptr(), src.len(), used, out.as_mut_ptr(), out.len()) }
 }
 
-fn substitute(buf: &mut [u8], used: usize, store: &[u32]) -> Written {
+fn substitute(buf: &mut [u8], used: usize, store: &[u32]) -> Substituted {
     let (values, count) = (store.as_ptr(), store.len());
     unsafe { vistrokk_substitute(buf.as_mut_ptr(), buf.len(), used, values, count) }
 }
@@ -129,7 +143,7 @@ fn run_stepper(buf: &mut [u8], used: usize, store: &mut [u32], budget: u32) -> R
     unsafe { vistrokk_run_stepper(buf.as_mut_ptr(), buf.len(), used, values, count, budget) }
 }
 
-fn run_reducer(buf: &mut [u8], used: usize, budget: u32) -> Ran {
+fn run_reducer(buf: &mut [u8], used: usize, budget: u32) -> Reduced {
     unsafe { vistrokk_run_reducer(buf.as_mut_ptr(), buf.len(), used, budget) }
 }
 
@@ -225,10 +239,17 @@ impl Engine {
     }
 }
 
+/// How many variables became numerals: at the start, where the store was substituted, and in all orders of the reducer together.
+struct Replaced {
+    at_start: u32,
+    by_reductions: u64,
+}
+
 struct Engines {
     stepper: Engine,
     reducer: Engine,
     store: Vec<u32>,
+    replaced: Replaced,
 }
 
 impl Engines {
@@ -244,10 +265,14 @@ impl Engines {
         accepted("run_stepper", stepper.number)?;
         let written = translate(&load.record, used, &mut term);
         accepted("translate", written.number)?;
-        let written = substitute(&mut term, written.used as usize, &store);
-        accepted("substitute", written.number)?;
-        let reducer = run_reducer(&mut term, written.used as usize, 0);
-        accepted("run_reducer", reducer.number)?;
+        let substituted = substitute(&mut term, written.used as usize, &store);
+        accepted("substitute", substituted.number)?;
+        let reducer = run_reducer(&mut term, substituted.used as usize, 0);
+        accepted("run_reducer", reducer.ran.number)?;
+        let replaced = Replaced {
+            at_start: substituted.replaced,
+            by_reductions: reducer.replaced,
+        };
         let engine = |buf, last| Engine {
             buf,
             left: budget,
@@ -256,8 +281,9 @@ impl Engines {
         };
         Ok(Engines {
             stepper: engine(program, stepper),
-            reducer: engine(term, reducer),
+            reducer: engine(term, reducer.ran),
             store,
+            replaced,
         })
     }
 
@@ -281,6 +307,7 @@ impl Engines {
             stepper,
             reducer,
             store,
+            replaced,
         } = self;
         if stepper.goes_on() && (stepper.steps <= reducer.steps || !reducer.goes_on()) {
             let (used, budget) = (stepper.used(), stepper.slice(STEPPER_SLICE));
@@ -290,8 +317,10 @@ impl Engines {
         }
         if reducer.goes_on() {
             let (used, budget) = (reducer.used(), reducer.slice(REDUCER_SLICE));
-            let ran = run_reducer(&mut reducer.buf, used, budget);
-            reducer.answered(ran);
+            let reduced = run_reducer(&mut reducer.buf, used, budget);
+            // No order has in it what an earlier one told, nor the start's.
+            replaced.by_reductions += reduced.replaced;
+            reducer.answered(reduced.ran);
             return true;
         }
         false
@@ -331,12 +360,17 @@ fn compare(engines: &mut Engines) -> Result<(), Refused> {
     }
     let outcome = |engine: &Engine| OUTCOMES[engine.last.outcome as usize];
     print!(
-        "stepper {} after {}, reducer {} after {}, comparisons: {compared}, store:",
+        "stepper {} after {}, reducer {} after {}, comparisons: {compared}, ",
         outcome(stepper),
         stepper.steps,
         outcome(reducer),
         reducer.steps
     );
+    let Replaced {
+        at_start,
+        by_reductions,
+    } = engines.replaced;
+    print!("replaced: {at_start} at the start and {by_reductions} by reductions, store:");
     for value in &engines.store {
         print!(" {value}");
     }

@@ -61,8 +61,11 @@ vistrokk_written vistrokk_translate(const uint8_t *src, size_t src_len, size_t u
  * alone. */
 vistrokk_written vistrokk_read_back(const uint8_t *src, size_t src_len, size_t used, uint8_t *out, size_t out_len);
 
+/* number and used: as above. replaced: how many variable records were turned into numerals, 0 with a refusal. */
+typedef struct { uint32_t number, used, replaced; } vistrokk_substituted;
+
 /* The store's values for the free variables of the term in `buf`, in place: `used` stays. Refusals 1 to 6. Writes `buf` alone. */
-vistrokk_written vistrokk_substitute(uint8_t *buf, size_t buf_len, size_t used, const uint32_t *store, size_t store_len);
+vistrokk_substituted vistrokk_substitute(uint8_t *buf, size_t buf_len, size_t used, const uint32_t *store, size_t store_len);
 
 /* The values of the finished term in `buf`, into the store. Answers VISTROKK_ACCEPTED, or a refusal 1 to 8 with the store as it
  * was. Writes the store alone. */
@@ -98,10 +101,14 @@ typedef struct { uint32_t number, outcome, steps, left, used; } vistrokk_ran;
  * left and zeros behind it up to buf_len, also after 0 steps, and the store has its values. */
 vistrokk_ran vistrokk_run_stepper(uint8_t *buf, size_t buf_len, size_t used, uint32_t *store, size_t store_len, uint32_t budget);
 
+/* How a run of the reducer ended: as above, and replaced: how many variable records its reductions turned into numerals, all of them
+ * together; 0 with a refusal. What vistrokk_substitute replaced before the run is not in it. */
+typedef struct { uint32_t number, outcome, steps, left, used; uint64_t replaced; } vistrokk_reduced;
+
 /* Makes up to `budget` reductions of a closed term. Lent: the term's record in buf, of which the whole of buf_len is room to
  * grow; it is changed in place. Refusals 1 to 5 and 7. Accepted, buf holds the record of the term that is left and zeros behind
  * it up to buf_len, also after 0 reductions. */
-vistrokk_ran vistrokk_run_reducer(uint8_t *buf, size_t buf_len, size_t used, uint32_t budget);
+vistrokk_reduced vistrokk_run_reducer(uint8_t *buf, size_t buf_len, size_t used, uint32_t budget);
 
 #ifdef __cplusplus
 }

@@ -26,6 +26,14 @@ pub struct Written {
     pub used: u32,
 }
 
+/// `replaced`: how many variable records became numerals (02, C-13).
+#[derive(Clone, Copy, Debug, Default, PartialEq, Eq)]
+pub struct Substituted {
+    pub number: u32,
+    pub used: u32,
+    pub replaced: u32,
+}
+
 /// `outcome` is the number of an [`Outcome`]; `left` is the budget less the steps.
 #[derive(Clone, Copy, Debug, Default, PartialEq, Eq)]
 pub struct Ran {
@@ -34,6 +42,13 @@ pub struct Ran {
     pub steps: u32,
     pub left: u32,
     pub used: u32,
+}
+
+/// A run of the reducer; `replaced` is the sum over its reductions (02, C-13).
+#[derive(Clone, Copy, Debug, Default, PartialEq, Eq)]
+pub struct Reduced {
+    pub ran: Ran,
+    pub replaced: u64,
 }
 
 // A refusal: its number, and 0 for everything else.
@@ -52,6 +67,15 @@ impl Written {
     }
 }
 
+impl Substituted {
+    pub fn refused(number: impl Into<u32>) -> Substituted {
+        Substituted {
+            number: number.into(),
+            ..Substituted::default()
+        }
+    }
+}
+
 impl Ran {
     /// The outcome is `refused`, and the budget is not handed back.
     pub fn refused(number: impl Into<u32>) -> Ran {
@@ -60,6 +84,13 @@ impl Ran {
             outcome: Outcome::Refused.number(),
             ..Ran::default()
         }
+    }
+}
+
+impl Reduced {
+    pub fn refused(number: impl Into<u32>) -> Reduced {
+        let ran = Ran::refused(number);
+        Reduced { ran, replaced: 0 }
     }
 }
 
@@ -122,15 +153,22 @@ fn fitting<R: Record>(answer: &R, room: usize) -> Result<Vec<u8>, Refusal> {
 
 // Rows 1–6.
 
-pub fn substitute(buf: &mut [u8], used: usize, store: &[u32]) -> Written {
-    written(substituted(buf, used, store), buf)
+pub fn substitute(buf: &mut [u8], used: usize, store: &[u32]) -> Substituted {
+    match substituted(buf, used, store) {
+        Ok((record, replaced)) => Substituted {
+            number: 0,
+            used: put(buf, &record),
+            replaced,
+        },
+        Err(refusal) => Substituted::refused(refusal),
+    }
 }
 
-fn substituted(buf: &[u8], used: usize, store: &[u32]) -> Result<Vec<u8>, Refusal> {
+fn substituted(buf: &[u8], used: usize, store: &[u32]) -> Result<(Vec<u8>, u32), Refusal> {
     let mut record: TermRecord = check::lent(buf, used)?;
     values_for(record.k, store)?;
-    substitute_in(&mut record.term, &values_of(store));
-    Ok(record.encode())
+    let replaced = substitute_in(&mut record.term, &values_of(store));
+    Ok((record.encode(), replaced))
 }
 
 // Rows 1–6.
@@ -154,13 +192,17 @@ fn configuration(buf: &[u8], used: usize, store: &[u32]) -> Result<Config, Refus
 
 // Rows 1–5, 7.
 
-pub fn run_reducer(buf: &mut [u8], used: usize, budget: u32) -> Ran {
+pub fn run_reducer(buf: &mut [u8], used: usize, budget: u32) -> Reduced {
     let mut record = match closed_term(buf, used) {
         Ok(record) => record,
-        Err(refusal) => return Ran::refused(refusal),
+        Err(refusal) => return Reduced::refused(refusal),
     };
-    let end = run::run(&mut record, buf.len(), budget);
-    ran(end, budget, put(buf, &record.encode()))
+    let mut replaced = 0;
+    let end = run::run_noting(&mut record, buf.len(), budget, |reduction| {
+        replaced += u64::from(reduction.replaced);
+    });
+    let ran = ran(end, budget, put(buf, &record.encode()));
+    Reduced { ran, replaced }
 }
 
 fn closed_term(buf: &[u8], used: usize) -> Result<TermRecord, Refusal> {

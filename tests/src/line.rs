@@ -31,8 +31,8 @@ fn report(input: &[u8]) -> Result<String, u32> {
     let stepper = run_stepper(&mut config.bytes, config.used, &mut store, BUDGET);
     accepted(stepper.number)?;
     let reducer = run_reducer(&mut term.bytes, term.used, BUDGET);
-    accepted(reducer.number)?;
-    Ok(shown(&stepper, &reducer, &store))
+    accepted(reducer.ran.number)?;
+    Ok(shown(&stepper, &reducer.ran, &store))
 }
 
 impl Lent {

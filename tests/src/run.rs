@@ -62,6 +62,16 @@ pub fn next_state<M: Machine>(machine: &M) -> Answer<M> {
 /// The outcome is read from the state left, first match: finished; over; no room, where the next
 /// state is longer than the buffer; spent, where a further step is possible.
 pub fn run<M: Machine>(machine: &mut M, room: usize, budget: u32) -> (Outcome, u32) {
+    run_noting(machine, room, budget, |_| ())
+}
+
+/// The same run. `note` is shown the change of each step that is made, and of no other.
+pub fn run_noting<M: Machine>(
+    machine: &mut M,
+    room: usize,
+    budget: u32,
+    mut note: impl FnMut(&M::Change),
+) -> (Outcome, u32) {
     let mut len = machine.state_len();
     let mut steps = 0;
     loop {
@@ -78,6 +88,7 @@ pub fn run<M: Machine>(machine: &mut M, room: usize, budget: u32) -> (Outcome, u
         if steps == budget {
             return (Outcome::Spent, steps);
         }
+        note(&change);
         machine.apply(change);
         len = next_len;
         steps += 1;

@@ -12,41 +12,45 @@ pub fn values_of(store: &[Value]) -> Values {
     (1..).zip(store.iter().copied()).collect()
 }
 
-/// Replaces the variables that are free in the term, as far as they have a value.
-pub fn substitute(term: &mut Term, values: &Values) {
+/// Replaces the variables that are free in the term, as far as they have a value, and gives how many
+/// places these were (02, C-13).
+pub fn substitute(term: &mut Term, values: &Values) -> u32 {
     match term {
         Term::Tuple(atoms) => substitute_atoms(atoms, values),
         // Let-one binds its variable in its last term only, so not in what it is given.
         Term::LetOne(variable, simple, last) => {
-            substitute_atom(simple.atom_mut(), values);
+            let own = substitute_atom(simple.atom_mut(), values);
             if values.contains_key(variable) {
                 let mut others = values.clone();
                 others.remove(variable);
-                substitute(last, &others);
+                own + substitute(last, &others)
             } else {
-                substitute(last, values);
+                own + substitute(last, values)
             }
         }
         // Let-all binds every variable in its last term.
         Term::LetAll(first, _) => substitute(first, values),
         // Rec binds every variable in its body; its count and start tuple are open.
         Term::Rec(_, count, start, _) => {
-            substitute_atom(count, values);
-            substitute_atoms(start, values);
+            substitute_atom(count, values) + substitute_atoms(start, values)
         }
     }
 }
 
-fn substitute_atoms(atoms: &mut [Atom], values: &Values) {
-    for atom in atoms {
-        substitute_atom(atom, values);
-    }
+fn substitute_atoms(atoms: &mut [Atom], values: &Values) -> u32 {
+    let each = atoms.iter_mut().map(|atom| substitute_atom(atom, values));
+    each.sum()
 }
 
-fn substitute_atom(atom: &mut Atom, values: &Values) {
+/// 1 where a variable became a numeral, 0 where the atom stays.
+fn substitute_atom(atom: &mut Atom, values: &Values) -> u32 {
     let value = atom_variable(atom).and_then(|variable| values.get(&variable));
-    if let Some(value) = value {
-        *atom = Atom::Numeral(*value);
+    match value {
+        None => 0,
+        Some(value) => {
+            *atom = Atom::Numeral(*value);
+            1
+        }
     }
 }
 

@@ -1,7 +1,7 @@
 //! The figures that 01 states, each as it stands there or worked out by hand from its rules.
 
 use other::both::{run_reducer, run_stepper, translate};
-use other::calls::{Ran, Written};
+use other::calls::{Ran, Reduced, Written};
 use other::check::Refusal;
 use other::codec::Record;
 use other::examples::{add, examples, nest_of_blocks, row_of_blocks, Example};
@@ -40,7 +40,7 @@ fn step(config: &Config, room: usize, budget: u32) -> (Ran, Vec<u32>) {
     (ran, store)
 }
 
-fn reduce(config: &Config, room: usize, budget: u32) -> Ran {
+fn reduce(config: &Config, room: usize, budget: u32) -> Reduced {
     let record = config.term().encode();
     run_reducer(&mut lend(&record, room), record.len(), budget)
 }
@@ -55,6 +55,11 @@ fn end(outcome: Outcome, steps: u32, budget: u32, used: u32) -> Ran {
     }
 }
 
+/// The end of a run of the reducer: the same, and how many variables it replaced.
+fn reduced(ran: Ran, replaced: u64) -> Reduced {
+    Reduced { ran, replaced }
+}
+
 #[test]
 fn add_is_64_bytes_and_its_term_172() {
     assert_eq!(add().encode(), ADD);
@@ -63,7 +68,8 @@ fn add_is_64_bytes_and_its_term_172() {
     assert_eq!(translation(&add()).encode().len(), 172);
 }
 
-/// The steps of ADD are 3 + 5·x2. Finished, the configuration is 12 bytes and the term 44.
+/// The steps of ADD are 3 + 5·x2. Finished, the configuration is 12 bytes and the term 44. The
+/// reducer replaces 5 + 5·x2 variables, as `replaced.rs` has it, reduction by reduction.
 #[test]
 fn add_takes_3_and_5_for_each_turn() {
     with_big_stack(|| {
@@ -73,7 +79,8 @@ fn add_takes_3_and_5_for_each_turn() {
             assert_eq!(ran, end(Outcome::Finished, steps, 9_999, 12));
             assert_eq!(store, [7, x2, 7 + x2, x2]);
             let ran = reduce(&add_on(7, x2), ROOM, 9_999);
-            assert_eq!(ran, end(Outcome::Finished, steps, 9_999, 44));
+            let ended = end(Outcome::Finished, steps, 9_999, 44);
+            assert_eq!(ran, reduced(ended, u64::from(5 + 5 * x2)));
         }
     });
 }
@@ -81,7 +88,8 @@ fn add_takes_3_and_5_for_each_turn() {
 /// After the first step and j turns unrolled the configuration is 48 + 36·j bytes: a turn adds a
 /// block's head of 4, an assignment of 16 and the body of 16. So 453 turns fit 16,384 bytes
 /// (16,356) and 454 do not (16,392). The term is 156 + 76·j: a let-all's head of 4, a let-one of
-/// 16 and the body of 56. So 213 turns fit (16,344) and 214 do not (16,420).
+/// 16 and the body of 56. So 213 turns fit (16,344) and 214 do not (16,420). Up to there the reducer
+/// has replaced the start's x3 alone: unrolling replaces nothing.
 #[test]
 fn add_of_400_has_room_in_the_stepper_only() {
     with_big_stack(|| {
@@ -89,7 +97,8 @@ fn add_of_400_has_room_in_the_stepper_only() {
         assert_eq!(ran, end(Outcome::Finished, 2_003, 1_000_000, 12));
         assert_eq!(store, [7, 400, 407, 400]);
         let ran = reduce(&add_on(7, 400), ROOM, 1_000_000);
-        assert_eq!(ran, end(Outcome::NoRoom, 1 + 213, 1_000_000, 16_344));
+        let ended = end(Outcome::NoRoom, 1 + 213, 1_000_000, 16_344);
+        assert_eq!(ran, reduced(ended, 1));
 
         let (ran, _) = step(&add_on(7, 453), ROOM, 1_000_000);
         assert_eq!(ran, end(Outcome::Finished, 3 + 5 * 453, 1_000_000, 12));
@@ -113,7 +122,7 @@ fn examples_p1_to_p9_in_both_engines() {
         );
         assert_eq!(got, want, "{} in the stepper", example.name);
         assert_eq!(values, example.end, "{}", example.name);
-        let ran = reduce(&config, ROOM, 1_000_000);
+        let ran = reduce(&config, ROOM, 1_000_000).ran;
         let got = (ran.number, ran.outcome, ran.steps, ran.left);
         assert_eq!(got, want, "{} in the reducer", example.name);
     }
@@ -153,13 +162,17 @@ fn p9_has_01s_bytes() {
 }
 
 /// "On P1's store, ADD's term needs 384 bytes: with 383 the reducer stops at 3 steps with no room."
-/// By hand: 172, after the let-one 156, then 76 more for each turn: 232, 308, 384.
+/// By hand: 172, after the let-one 156, then 76 more for each turn: 232, 308, 384. Replaced by the
+/// let-one: 1; by unrolling: nothing; in all: 5 + 5·3.
 #[test]
 fn the_reducer_needs_384_bytes() {
     let p1 = add_on(7, 3);
-    assert_eq!(reduce(&p1, 383, 100), end(Outcome::NoRoom, 3, 100, 308));
-    assert_eq!(reduce(&p1, 384, 100), end(Outcome::Finished, 18, 100, 44));
-    assert_eq!(reduce(&p1, 384, 4), end(Outcome::Spent, 4, 4, 384));
+    let no_room = reduced(end(Outcome::NoRoom, 3, 100, 308), 1);
+    let finished = reduced(end(Outcome::Finished, 18, 100, 44), 20);
+    let spent = reduced(end(Outcome::Spent, 4, 4, 384), 1);
+    assert_eq!(reduce(&p1, 383, 100), no_room);
+    assert_eq!(reduce(&p1, 384, 100), finished);
+    assert_eq!(reduce(&p1, 384, 4), spent);
 }
 
 /// "The configuration needs 156: with 155 the stepper stops at 3."

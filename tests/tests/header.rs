@@ -1,6 +1,6 @@
 //! The names and numbers of `include/vistrokk.h`, held to 01's table of refusals ("Where an order
-//! stops"), with 02's rows at their places, and to the outcomes and limits that the other program
-//! has.
+//! stops"), with 02's rows at their places, and to the outcomes, limits and answers that the other
+//! program has.
 
 use std::fs;
 use std::path::Path;
@@ -82,6 +82,38 @@ fn the_rules_have_02s_numbers() {
     let wanted = [("ROUND_DOWN", 1), ("ROUND_NEAREST", 2)];
     let wanted = wanted.map(|(name, number)| (name.to_string(), number));
     assert_eq!(enumerators(&header(), "vistrokk_rule"), wanted);
+}
+
+/// What the calls answer, field by field: callers in another language declare it anew. 02, C-13 adds the
+/// two counts.
+#[test]
+fn the_answers_have_their_fields() {
+    let ran = "uint32_t number, outcome, steps, left, used;";
+    let reduced = format!("{ran} uint64_t replaced;");
+    let answers = [
+        ("checked", "uint32_t number, k;"),
+        ("written", "uint32_t number, used;"),
+        ("substituted", "uint32_t number, used, replaced;"),
+        ("ran", ran),
+        ("reduced", &reduced),
+    ];
+    for (name, fields) in answers {
+        let line = format!("\ntypedef struct {{ {fields} }} vistrokk_{name};\n");
+        assert!(header().contains(&line), "{name}");
+    }
+    let calls = [
+        ("checked", "check_program"),
+        ("checked", "check_term"),
+        ("written", "translate"),
+        ("written", "read_back"),
+        ("substituted", "substitute"),
+        ("ran", "run_stepper"),
+        ("reduced", "run_reducer"),
+    ];
+    for (answer, call) in calls {
+        let start = format!("\nvistrokk_{answer} vistrokk_{call}(");
+        assert!(header().contains(&start), "{call}");
+    }
 }
 
 #[test]

@@ -33,7 +33,7 @@ fn minus_one(value: Value) -> Value {
     let (mut reductions, mut term_used) = (lend(&term, 64), term.len());
     for outcome in [Outcome::Spent, Outcome::Finished] {
         let stepped = run_stepper(&mut steps, used, &mut store, 1);
-        let reduced = run_reducer(&mut reductions, term_used, 1);
+        let reduced = run_reducer(&mut reductions, term_used, 1).ran;
         assert_eq!((stepped.outcome, stepped.steps), (outcome.number(), 1));
         assert_eq!((reduced.outcome, reduced.steps), (outcome.number(), 1));
         (used, term_used) = (stepped.used as usize, reduced.used as usize);
@@ -111,7 +111,7 @@ fn a_count_down_stays_at_0() {
     assert_eq!((ran.outcome, ran.steps), (Outcome::Finished.number(), 28));
     assert_eq!(store, [3, 5, 0, 5]);
     let mut buffer = lend(&term, 1_000);
-    let ran = run_reducer(&mut buffer, term.len(), 99);
+    let ran = run_reducer(&mut buffer, term.len(), 99).ran;
     assert_eq!((ran.outcome, ran.steps), (Outcome::Finished.number(), 28));
     let mut shown = [9; 4];
     result(&buffer, ran.used as usize, &mut shown);

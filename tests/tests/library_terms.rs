@@ -59,23 +59,27 @@ fn generated_terms_read_back() {
 }
 
 /// Stores into terms of every sort, closed ones among them: there nothing changes but the bytes
-/// behind. A second time nothing changes at all.
+/// behind. A second time nothing changes at all, and nothing is replaced.
 #[test]
 fn stores_substituted_into_generated_terms() {
     let seen = Counts::<11>::default();
+    // Refused, so with a count of 0; accepted, and nothing was replaced; something was.
+    let replaced = Counts::<3>::default();
     cases(40_000, |random| {
         let term = sound_term(random);
         let Lending { mut buffer, used } = perhaps_damaged(random, &term.encode());
         let values = lent_store(random, term.k);
         let written = substitute(&mut buffer, used, &values);
         seen.one(written.number as usize);
+        replaced.one(usize::from(written.number == 0) + usize::from(written.replaced > 0));
         if written.number == 0 {
             let once = buffer.clone();
-            substitute(&mut buffer, used, &store(random, term.k));
-            assert_eq!(buffer, once);
+            let again = substitute(&mut buffer, used, &store(random, term.k));
+            assert_eq!((&buffer, again.replaced), (&once, 0));
         }
     });
     seen.assert_at_least([10_000, 2_000, 500, 100, 500, 50, 2_000, 0, 0, 0, 0]);
+    replaced.assert_at_least([5_000, 5_000, 10_000]);
 }
 
 /// Results of terms of every sort: finished ones, open tuples, unfinished closed terms and others.

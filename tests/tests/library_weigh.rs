@@ -127,7 +127,7 @@ fn the_engines_take_a_weighed_store() {
             let written = substitute(&mut term, written.used as usize, &store);
             assert_eq!(written.number, 0);
             let ran = run_reducer(&mut term, written.used as usize, 50);
-            assert_eq!(ran.number, 0);
+            assert_eq!(ran.ran.number, 0);
         }
         let mut buffer = lend(&record, record.len() + 500);
         assert_eq!(

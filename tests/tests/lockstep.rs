@@ -2,7 +2,7 @@
 //! ones among them, and the two states compared wherever the totals agree.
 
 use other::both::{check_program, run_reducer, run_stepper, substitute, translate};
-use other::calls::Ran;
+use other::calls::{Ran, Reduced};
 use other::codec::{hex, Record};
 use other::examples::examples;
 use other::generate::lend;
@@ -105,10 +105,12 @@ impl World {
         let budget = budget(run, &self.reducer, &self.stepper);
         let used = run.used.unwrap_or(self.reducer.used);
         let before = self.reducer.buffer.clone();
-        let ran = run_reducer(&mut self.reducer.buffer, used, budget);
+        let reduced = run_reducer(&mut self.reducer.buffer, used, budget);
+        let ran = reduced.ran;
         let wrong = used != self.reducer.used;
         if wrong {
             let unchanged = before == self.reducer.buffer;
+            assert_eq!(reduced, Reduced::refused(ran.number));
             self.refused(&ran, unchanged);
         }
         assert_eq!(ran.number != 0, wrong);
@@ -258,7 +260,7 @@ fn runs_add_up() {
             };
             world.play(&run);
         }
-        let ran = run_reducer(&mut whole, whole_used, budget);
+        let ran = run_reducer(&mut whole, whole_used, budget).ran;
         assert_eq!(u64::from(ran.steps), world.reducer.total);
         let used = world.reducer.used;
         assert_eq!(whole[..ran.used as usize], world.reducer.buffer[..used]);

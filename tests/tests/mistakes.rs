@@ -1,12 +1,14 @@
-//! 01's "Mistakes that pass a quick trial", each with the value that its rules give.
+//! 01's "Mistakes that pass a quick trial", and those that 02's count of replaced variables (C-13)
+//! leaves room for, each with the value that the rules give.
 
-use other::both::{run_reducer, run_stepper};
+use other::both::{run_reducer, run_stepper, substitute as substitute_over_bytes};
 use other::codec::Record;
 use other::examples::program;
 use other::generate::lend;
 use other::run::stepper::Config;
 use other::run::{run, Outcome};
 use other::substitute::{substitute, values_of};
+use other::translate::translate;
 use other::tree::{Atom, Block, Bound, Command, Expr, Program, Simple, Term};
 
 const ROOM: usize = 16_384;
@@ -39,7 +41,7 @@ fn over_bytes(start: &Config, budget: u32, ended: (Outcome, u32), end: &Config) 
     assert_eq!(store, end.store);
     let record = start.term().encode();
     let mut buffer = lend(&record, ROOM);
-    let ran = run_reducer(&mut buffer, record.len(), budget);
+    let ran = run_reducer(&mut buffer, record.len(), budget).ran;
     assert_eq!((ran.number, ran.outcome, ran.steps), wanted);
     assert_eq!(buffer[..ran.used as usize], end.term().encode());
 }
@@ -194,4 +196,59 @@ fn an_empty_block_inside_is_not_the_end() {
         block: vec![],
     };
     assert_eq!(finished(none.block, &[4]), (0, vec![4]));
+}
+
+/// How many variables become numerals: where the store is substituted in the program's term, and then
+/// in runs of the reducer with these budgets, one after the other.
+fn replaced(block: Block, store: &[u32], budgets: &[u32]) -> (u32, Vec<u64>) {
+    let term = translate(&program(store.len() as u32, block)).encode();
+    let mut buffer = lend(&term, ROOM);
+    let start = substitute_over_bytes(&mut buffer, term.len(), store);
+    assert_eq!(start.number, 0);
+    let mut used = term.len();
+    let run = |budget: &u32| {
+        let reduced = run_reducer(&mut buffer, used, *budget);
+        assert_eq!((reduced.ran.number, reduced.ran.steps), (0, *budget));
+        used = reduced.ran.used as usize;
+        reduced.replaced
+    };
+    (start.replaced, budgets.iter().map(run).collect())
+}
+
+/// A variable counted where a let-one binds it again: the term of {x1 := 3; x1 := x1 + 1} is x1 = 3 in
+/// x1 = succ x1 in (x1). Nothing is free in it, so the start replaces 0. The first let-one replaces
+/// succ's x1, but not the tuple's; succ replaces nothing; the second let-one the tuple's.
+#[test]
+fn a_variable_bound_again_is_not_counted() {
+    let block = vec![assign(1, Expr::Literal(3)), assign(1, Expr::PlusOne(1))];
+    assert_eq!(replaced(block, &[9], &[1, 1, 1]), (0, vec![1, 0, 1]));
+}
+
+/// A rec's reductions counting its start tuple or count, or the start counting a rec's body or a
+/// let-all's last term: {for x1 := 1 to x1 {}; x2 := x1} on 0,5 has let-all rec(x1, x1, (x1, x2), (x1, x2))
+/// in x2 = x1 in (x1, x2). The start replaces the count and the start tuple: 3. The rec of 0 replaces
+/// nothing; the let-all the x1 that x2 gets and that of the tuple, 2; the let-one the tuple's x2.
+#[test]
+fn a_rec_counts_at_the_start_alone() {
+    let block = vec![
+        Command::Loop(1, Bound::Variable(1), vec![]),
+        assign(2, Expr::Variable(1)),
+    ];
+    assert_eq!(replaced(block, &[0, 5], &[1, 1, 1]), (3, vec![0, 2, 1]));
+}
+
+/// The count of the last reduction, or of all runs so far, or with the start's own: the term of
+/// {for x1 := 1 to 1 {}} is let-all rec(x1, 1, (x1), (x1)) in (x1). The start replaces one. Of the
+/// five reductions rec of 1 and of 0 replace nothing, nor does the turn's let-all, whose last term
+/// binds x1 at once; the turn's let-one replaces one and the last let-all one.
+#[test]
+fn a_run_counts_its_own_reductions_all_of_them() {
+    let count = |budgets: &[u32]| {
+        let block = vec![Command::Loop(1, Bound::Literal(1), vec![])];
+        replaced(block, &[9], budgets)
+    };
+    assert_eq!(count(&[1, 1, 1, 1, 1]), (1, vec![0, 0, 0, 1, 1]));
+    assert_eq!(count(&[5]), (1, vec![2]));
+    assert_eq!(count(&[0, 4, 0, 1, 0]), (1, vec![0, 1, 0, 1, 0]));
+    assert_eq!(count(&[3, 2]), (1, vec![0, 2]));
 }

@@ -3,7 +3,7 @@
 use other::both::{
     check_program, check_term, read_back, result, run_reducer, run_stepper, substitute, translate,
 };
-use other::calls::{Checked, Ran, Written};
+use other::calls::{Checked, Ran, Reduced, Substituted, Written};
 use other::check::Refusal;
 use other::codec::{hex, kind, Record};
 use other::examples::{add, nest_of_blocks, row_of_blocks, sample_programs, sample_terms};
@@ -336,9 +336,9 @@ fn term_calls_refuse(random: &mut Random, case: &Damaged, number: u32) {
     let written = read_back(&lent, *used, &mut out);
     assert_eq!(written, Written::refused(number));
     let written = substitute(&mut lent, *used, &store);
-    assert_eq!(written, Written::refused(number));
+    assert_eq!(written, Substituted::refused(number));
     let ran = run_reducer(&mut lent, *used, random.word());
-    assert_eq!(ran, Ran::refused(number));
+    assert_eq!(ran, Reduced::refused(number));
     assert_eq!(result(&lent, *used, &mut store), number);
     assert!(lent == *buffer && only(&out, 0xA5) && only(&store, 3));
 }

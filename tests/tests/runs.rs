@@ -1,7 +1,7 @@
 //! Runs: outcomes read from the state left, room, budgets, refusals, and the other two calls.
 
 use other::both::{result, run_reducer, run_stepper, substitute, weigh};
-use other::calls::Ran;
+use other::calls::{Ran, Reduced};
 use other::check::Refusal;
 use other::codec::{hex, Record};
 use other::examples::{add, examples};
@@ -26,13 +26,18 @@ fn end(outcome: Outcome, steps: u32, left: u32, used: u32) -> Ran {
     }
 }
 
+/// The end of a run of the reducer: the same, and how many variables it replaced.
+fn reduced(ran: Ran, replaced: u64) -> Reduced {
+    Reduced { ran, replaced }
+}
+
 fn step(program: &Program, store: &[u32], room: usize, budget: u32) -> Ran {
     let record = program.encode();
     let mut store = store.to_vec();
     run_stepper(&mut lend(&record, room), record.len(), &mut store, budget)
 }
 
-fn reduce(program: &Program, store: &[u32], room: usize, budget: u32) -> Ran {
+fn reduce(program: &Program, store: &[u32], room: usize, budget: u32) -> Reduced {
     let (program, store) = (program.clone(), store.to_vec());
     let record = Config { program, store }.term().encode();
     run_reducer(&mut lend(&record, room), record.len(), budget)
@@ -58,12 +63,13 @@ fn no_budget_on_a_finished_state_is_finished() {
     let record = TermRecord { k: 1, term }.encode();
     let mut buffer = lend(&record, 23);
     let ran = run_reducer(&mut buffer, 20, 0);
-    assert_eq!(ran, end(Outcome::Finished, 0, 0, 20));
+    assert_eq!(ran, reduced(end(Outcome::Finished, 0, 0, 20), 0));
     assert_eq!(buffer[..20], record);
     assert_eq!(buffer[20..], [0; 3]);
 }
 
-/// Steps left to make and no budget for them is spent, only where nothing else stands before it.
+/// Steps left to make and no budget for them is spent, only where nothing else stands before it. The
+/// reducer's first reduction, x3 = 7, replaces the x3 of the rec's start; unrolling replaces nothing.
 #[test]
 fn a_budget_that_ends_before_no_room_is_no_room() {
     let p1 = [7, 3, 0, 0];
@@ -71,20 +77,28 @@ fn a_budget_that_ends_before_no_room_is_no_room() {
     assert_eq!(step(&add(), &p1, 155, 3), end(Outcome::NoRoom, 3, 0, 120));
     assert_eq!(step(&add(), &p1, 155, 2), end(Outcome::Spent, 2, 0, 84));
     assert_eq!(step(&add(), &p1, 156, 3), end(Outcome::Spent, 3, 0, 120));
-    assert_eq!(reduce(&add(), &p1, 383, 3), end(Outcome::NoRoom, 3, 0, 308));
-    assert_eq!(reduce(&add(), &p1, 383, 2), end(Outcome::Spent, 2, 0, 232));
-    assert_eq!(reduce(&add(), &p1, 384, 3), end(Outcome::Spent, 3, 0, 308));
+    let no_room = reduced(end(Outcome::NoRoom, 3, 0, 308), 1);
+    let spent = |steps, used| reduced(end(Outcome::Spent, steps, 0, used), 1);
+    assert_eq!(reduce(&add(), &p1, 383, 3), no_room);
+    assert_eq!(reduce(&add(), &p1, 383, 2), spent(2, 232));
+    assert_eq!(reduce(&add(), &p1, 384, 3), spent(3, 308));
 }
 
-/// P3 stands before 4,294,967,296 after 5 steps.
+/// P3 stands before 4,294,967,296 after 5 steps. By then its reductions have replaced 1 (x3 = x1), 0
+/// and 0 (rec of 1 and of 0), 3 (let-all: succ's x3, and x1 and x2 of the tuple) and 1 (x4 = 1).
 #[test]
 fn a_budget_that_ends_before_over_is_over() {
     let p3 = [u32::MAX, 1, 0, 0];
     let outcome = |ran: Ran| (ran.outcome, ran.steps, ran.left);
     let (over, spent) = (Outcome::Over.number(), Outcome::Spent.number());
-    for (budget, wanted) in [(4, (spent, 4, 0)), (5, (over, 5, 0)), (6, (over, 5, 1))] {
+    for (budget, wanted, replaced) in [
+        (4, (spent, 4, 0), 4),
+        (5, (over, 5, 0), 5),
+        (6, (over, 5, 1), 5),
+    ] {
         assert_eq!(outcome(step(&add(), &p3, 400, budget)), wanted);
-        assert_eq!(outcome(reduce(&add(), &p3, 400, budget)), wanted);
+        let ended = reduce(&add(), &p3, 400, budget);
+        assert_eq!((outcome(ended.ran), ended.replaced), (wanted, replaced));
     }
 }
 
@@ -180,7 +194,7 @@ fn runs_over_bytes_leave_what_they_should() {
         let room = record.len() + random.below(300);
         let (state, outcome, steps) = step_by_step(&term, room, budget);
         let mut buffer = lend(&record, room);
-        let ran = run_reducer(&mut buffer, record.len(), budget);
+        let ran = run_reducer(&mut buffer, record.len(), budget).ran;
         let left = state.encode();
         let wanted = end(outcome, steps, budget - steps, left.len() as u32);
         assert_eq!(ran, wanted, "{}", hex(&record));
@@ -225,19 +239,19 @@ fn the_reducer_wants_a_closed_term() {
         let bytes = record.encode();
         let mut buffer = lend(&bytes, 400);
         let ran = run_reducer(&mut buffer, bytes.len(), 9);
-        assert_eq!(ran, Ran::refused(Refusal::FreeVariable));
+        assert_eq!(ran, Reduced::refused(Refusal::FreeVariable));
         assert_eq!(buffer, lend(&bytes, 400));
     }
     cases(2_000, |random| {
         let record = any_term(random, SHORTEST + 200);
         let bytes = record.encode();
         let mut buffer = bytes.clone();
-        let number = run_reducer(&mut buffer, bytes.len(), 0).number;
+        let number = run_reducer(&mut buffer, bytes.len(), 0).ran.number;
         let open = Refusal::FreeVariable.number();
         assert_eq!(number, if closed(&record.term) { 0 } else { open });
         let values = store(random, record.k);
         substitute(&mut buffer, bytes.len(), &values);
-        assert_eq!(run_reducer(&mut buffer, bytes.len(), 5).number, 0);
+        assert_eq!(run_reducer(&mut buffer, bytes.len(), 5).ran.number, 0);
     });
 }
 

@@ -1,7 +1,7 @@
 //! Translation, read-back, substitution and free variables.
 
 use other::both::{read_back, substitute, translate};
-use other::calls::Written;
+use other::calls::{Substituted, Written};
 use other::check::Refusal;
 use other::codec::{hex, Record};
 use other::examples::{add, row_of_blocks};
@@ -229,7 +229,7 @@ fn the_longest_answer_is_16384_bytes() {
 
 /// Every place of 01's "Filling", at k = 2 with x1 = 5 and x2 = 6: let-one's own part is open and
 /// its last term only for the other variable; let-all's last term and rec's body are closed to it;
-/// rec's count and start tuple are open.
+/// rec's count and start tuple are open. Replaced are pred's x1, the count's x2 and the start's x2.
 #[test]
 fn each_binding_rule_of_substitution() {
     let both = |a, b| tuple(&[a, b]);
@@ -258,14 +258,17 @@ fn each_binding_rule_of_substitution() {
     let mut buffer = lend(&record, record.len() + 5);
     let written = substitute(&mut buffer, record.len(), &[5, 6]);
     assert_eq!((written.number, written.used as usize), (0, record.len()));
+    assert_eq!(written.replaced, 3);
     assert_eq!(buffer[..wanted.len()], wanted);
     assert_eq!(buffer[wanted.len()..], [0; 5]);
 }
 
 /// No length changes, what is left is closed, and substituting again changes nothing but still
-/// clears the bytes behind. Every field that is not a substituted atom stays as it was.
+/// clears the bytes behind. Every field that is not a substituted atom stays as it was, and the
+/// substituted atoms are as many as the call says.
 #[test]
 fn substitution_changes_no_length_and_closes() {
+    let seen = Counts::<2>::default();
     cases(4_000, |random| {
         let limit = SHORTEST + random.below(600);
         let record = any_term(random, limit);
@@ -273,36 +276,45 @@ fn substitution_changes_no_length_and_closes() {
         let bytes = record.encode();
         let mut buffer = lend(&bytes, bytes.len() + random.below(20));
         let used = bytes.len() as u32;
+        let answer = |replaced| Substituted {
+            number: 0,
+            used,
+            replaced,
+        };
         let written = substitute(&mut buffer, bytes.len(), &values);
-        assert_eq!(written, Written { number: 0, used });
         let substituted = TermRecord::decode(&buffer[..bytes.len()]).expect("a term");
         assert!(closed(&substituted.term), "{}", hex(&bytes));
         assert!(buffer[bytes.len()..].iter().all(|byte| *byte == 0));
-        same_but_for_atoms(
+        let replaced = same_but_for_atoms(
             &Raw::read(&bytes),
             &Raw::read(&buffer[..bytes.len()]),
             &values,
         );
+        assert_eq!(written, answer(replaced), "{}", hex(&bytes));
+        seen.one(usize::from(replaced > 0));
 
         let mut again = lend(&buffer[..bytes.len()], buffer.len());
-        substitute(&mut again, bytes.len(), &values);
-        assert_eq!(again, buffer);
+        let written = substitute(&mut again, bytes.len(), &values);
+        assert_eq!((written, &again), (answer(0), &buffer));
     });
+    seen.assert_at_least([100, 2_000]);
 }
 
-fn same_but_for_atoms(open: &Raw, substituted: &Raw, values: &[u32]) {
+/// Gives how many variable records (kind 33) are numerals now (kind 32).
+fn same_but_for_atoms(open: &Raw, substituted: &Raw, values: &[u32]) -> u32 {
     if open.kind == 33 && substituted.kind == 32 {
         assert_eq!(substituted.words, [values[open.words[0] as usize - 1]]);
-        return;
+        return 1;
     }
     assert_eq!(
         (open.kind, &open.words),
         (substituted.kind, &substituted.words)
     );
     assert_eq!(open.children.len(), substituted.children.len());
-    for (open, substituted) in open.children.iter().zip(&substituted.children) {
-        same_but_for_atoms(open, substituted, values);
-    }
+    let children = open.children.iter().zip(&substituted.children);
+    children
+        .map(|(open, substituted)| same_but_for_atoms(open, substituted, values))
+        .sum()
 }
 
 /// Row 6 comes after 5, and a store of k values is asked for, no other number.
@@ -312,7 +324,7 @@ fn substitution_wants_k_values() {
     for len in (0..=17).filter(|len| *len != 4) {
         let mut buffer = lend(&record, 200);
         let written = substitute(&mut buffer, 172, &vec![1; len]);
-        assert_eq!(written, Written::refused(Refusal::BadStore));
+        assert_eq!(written, Substituted::refused(Refusal::BadStore));
         assert_eq!(buffer, lend(&record, 200));
     }
     let mut buffer = record.clone();

@@ -247,8 +247,8 @@ module _ (a b c d : ℕ) (values : SmallValues (okOf hd) (four a b c d)) (small 
         (subst (λ (t : Term). Walk (reduce (okOf hd)) (λ (u : Term). length (encodeTerm hd u) ≤ length buf) (addSteps b) (stateOf 4 (at add (four a b c d))) t) (finished-state 4 (addEnd a b d) refl) walk-term)
         (tuple-halts (okOf hd) (map num (addEnd a b d))) budget enough
 
-    reducer-runs : runReducer buf 172 budget ≡ reducedTo hd (length buf) budget (record { count = addSteps b; outcome = isFinished; state = tuple (map num (addEnd a b d)) })
-    reducer-runs = reducer-is holds-term short budget ∙ ap (reducedTo hd (length buf) budget) reducer-ran
+    reducer-runs : runReducer buf 172 budget ≡ reducedTo hd (length buf) budget (stateOf 4 (at add (four a b c d))) (record { count = addSteps b; outcome = isFinished; state = tuple (map num (addEnd a b d)) })
+    reducer-runs = reducer-is holds-term short budget ∙ ap (reducedTo hd (length buf) budget (stateOf 4 (at add (four a b c d)))) reducer-ran
 
 -- THE THEOREM
 

@@ -7,9 +7,11 @@ use lib.ListN.{length, take}
 use Rattle.record.specs.Answers.{Wrote, checkProgram}
 use Rattle.record.specs.declared.Header.{Header}
 use Rattle.record.specs.Header.{encodeTerm, okOf}
-use Rattle.record.specs.Holding.{ProgramIn}
+use Rattle.record.specs.Holding.{ProgramIn, TermIn}
 use Rattle.record.specs.Rows.{headerOf}
+use Rattle.rules.specs.FreeVariables.{noVars}
 use Rattle.rules.specs.Reduction.{onNext, reduce}
+use Rattle.rules.specs.Replaced.{done}
 use Rattle.rules.specs.Run.{iterate}
 use Rattle.rules.specs.Scope.{ConfigWithin}
 use Rattle.rules.specs.Sound.{SoundConfig}
@@ -23,6 +25,7 @@ use Rattle.reducer.proofs.RunReducerLaws.{reducer-number, reducer-passes, reduc
 use Rattle.rules.proofs.LockStep.{lock-step, lock-steps}
 use Rattle.rules.proofs.SoundTermLaws.{sound-stateOf}
 use Rattle.rules.proofs.SubstitutionLaws.{substitute-all}
+use Rattle.term.specs.Calls.{Substituted}
 use Rattle.stepper.proofs.RunStepperLaws.{stepper-number, stepper-passes, stepper-takes}
 use Rattle.term.proofs.CallLaws.{stored-size}
 use Rattle.agreement.specs.Demand3.{Agree, Demand3, Demand3Calls, Demand3Refusals, Refuses, Start, startWorld}
@@ -88,10 +91,10 @@ module _ (hd : Header) (c₀ : Config) (sound : SoundConfig (okOf hd) (hd .k) c�
         Q = c .block;
         t = g .state;
         stepperHolds = h .holds .program .bytes;
-        reducerHolds = g .holds .bytes;
+        reducerHolds = g .holds .term .bytes;
         programWords = program-words (h .holds .program);
-        termWords = term-words (g .holds);
-        states = g .holds .bytes ∙ ap (encodeTerm hd) (t ∙ state-is (hd .k) c);
+        termWords = term-words (g .holds .term);
+        states = g .holds .term .bytes ∙ ap (encodeTerm hd) (t ∙ state-is (hd .k) c);
         finishedBoth = ((λ q. (map num (w .store), end q)), (λ l. finished-block (hd .k) (c .block) (w .store) (l .0) (sym t ∙ l .1)));
         overBoth = ((λ o. lock ∙ over-onNext (stateOf (hd .k)) (step (okOf hd) c) o), (λ o. onNext-over (stateOf (hd .k)) (step (okOf hd) c) (sym lock ∙ o)));
         sameValues = end;
@@ -101,9 +104,9 @@ module _ (hd : Header) (c₀ : Config) (sound : SoundConfig (okOf hd) (hd .k) c�
   refuses = record {
     stepperUsed = λ used xs budget ne e. ne (stepper-takes (h .holds .program) used xs (sym (stepper-number (w .stepperBuf) used xs budget) ∙ e) .same);
     stepperStore = λ used xs budget ne e. ne (stepper-takes (h .holds .program) used xs (sym (stepper-number (w .stepperBuf) used xs budget) ∙ e) .values);
-    reducerUsed = λ used budget ne e. ne (reducer-takes (g .holds) used (sym (reducer-number (w .reducerBuf) used budget) ∙ e) .same);
+    reducerUsed = λ used budget ne e. ne (reducer-takes (g .holds .term) used (sym (reducer-number (w .reducerBuf) used budget) ∙ e) .same);
     stepperTakes = λ budget l. stepper-number (w .stepperBuf) (w .stepperUsed) (w .store) budget ∙ stepper-passes (h .holds .program) l (w .store) (within .size);
-    reducerTakes = λ budget l. reducer-number (w .reducerBuf) (w .reducerUsed) budget ∙ reducer-passes (g .holds) l;
+    reducerTakes = λ budget l. reducer-number (w .reducerBuf) (w .reducerUsed) budget ∙ reducer-passes (g .holds .term) l;
   }
 
 -- WHAT A START THAT IS ACCEPTED HAS
@@ -136,17 +139,20 @@ module _ (hd : Header) (P : Block) (μ : List ℕ) (s : Start hd P μ) where
     };
   }
 
+  pub reducer-term : TermIn noVars hd (stateOf (hd .k) (record { block = P; store = μ })) (s .reducerBuf) (s .reducerUsed)
+  reducer-term = record {
+    within = s .reducerFits;
+    header = accepted-program .header;
+    bytes = s .reducerBegins ∙ ap (encodeTerm hd) (sym (state-is (hd .k) (record { block = P; store = μ })));
+    sound = sound-stateOf (okOf hd) (ok-limit hd) (hd .k) (record { block = P; store = μ }) first;
+  }
+
   reducer-first : ReducerStands hd (stateOf (hd .k) (record { block = P; store = μ })) (startWorld hd P μ s)
   unfolding iterate
   reducer-first = record {
     state = stateOf (hd .k) (record { block = P; store = μ });
     reached = refl;
-    holds = record {
-      within = s .reducerFits;
-      header = accepted-program .header;
-      bytes = s .reducerBegins ∙ ap (encodeTerm hd) (sym (state-is (hd .k) (record { block = P; store = μ })));
-      sound = sound-stateOf (okOf hd) (ok-limit hd) (hd .k) (record { block = P; store = μ }) first;
-    };
+    holds = record { term = reducer-term; counted = done };
   }
 
 -- THE THEOREMS
@@ -156,14 +162,14 @@ unfolding Demand3
 demand3 hd P μ s os a e =
     agree hd (record { block = P; store = μ }) (first hd P μ s) (play (startWorld hd P μ s) os)
     (stepper-stands hd (record { block = P; store = μ }) os (startWorld hd P μ s) a (stepper-first hd P μ s))
-    (reducer-stands hd (stateOf (hd .k) (record { block = P; store = μ })) os (startWorld hd P μ s) a (reducer-first hd P μ s)) e
+    (reducer-stands hd (stateOf (hd .k) (record { block = P; store = μ })) os (startWorld hd P μ s) (reducer-first hd P μ s)) e
 
 pub demand3-refusals : Demand3Refusals
 unfolding Demand3Refusals
 demand3-refusals hd P μ s os a =
     refuses hd (record { block = P; store = μ }) (first hd P μ s) (play (startWorld hd P μ s) os)
     (stepper-stands hd (record { block = P; store = μ }) os (startWorld hd P μ s) a (stepper-first hd P μ s))
-    (reducer-stands hd (stateOf (hd .k) (record { block = P; store = μ })) os (startWorld hd P μ s) a (reducer-first hd P μ s))
+    (reducer-stands hd (stateOf (hd .k) (record { block = P; store = μ })) os (startWorld hd P μ s) (reducer-first hd P μ s))
 
 -- FROM THE REAL CALLS
 
@@ -178,11 +184,11 @@ demand3-calls k cb cu hb checked out tw te tz μ hμ sw se sz sb hs rb fits hr o
     let is-checked : checkProgram cb cu ≡ record { number = 0; k = hd .k } = checked ∙ ap (λ (n : ℕ). record { number = 0; k = n }) is-k in
     let term : TermLent hd P (tw .written) (tw .used) =
     subst (λ (x : Wrote). TermLent hd P (x .written) (x .used)) (sym te) (translates hd P cb cu is-checked (h .bytes) (program-words h) out (sym (ap (λ (x : Wrote). x .number) te) ∙ tz)) in
-    let size = stored-size hd (translate (hd .k) P) (tw .written) (tw .used) μ (h .header) (term .bytes) (sym (ap (λ (x : Wrote). x .number) se) ∙ sz) in
+    let size = stored-size hd (translate (hd .k) P) (tw .written) (tw .used) μ (h .header) (term .bytes) (sym (ap (λ (x : Substituted). x .number) se) ∙ sz) in
     let s = engines-take hd P cb cu is-checked (h .bytes) (program-words h) μ size hμ .start (tw .written) (tw .used) term sb hs rb
-    (subst (λ (x : Wrote). x .used ≤ length rb) se fits) (subst (λ (x : Wrote). take (x .used) rb ≡ take (x .used) (x .written)) se hr) in
-    let begins : record { stepperBuf = sb; store = μ; stepperUsed = cu; stepperTotal = 0; reducerBuf = rb; reducerUsed = sw .used; reducerTotal = 0 } ≡ startWorld hd P μ (s .0) =
-    ap (λ (x : Wrote). record { stepperBuf = sb; store = μ; stepperUsed = cu; stepperTotal = 0; reducerBuf = rb; reducerUsed = x .used; reducerTotal = 0 }) se ∙ sym (s .1) in
+    (subst (λ (x : Substituted). x .used ≤ length rb) se fits) (subst (λ (x : Substituted). take (x .used) rb ≡ take (x .used) (x .written)) se hr) in
+    let begins : record { stepperBuf = sb; store = μ; stepperUsed = cu; stepperTotal = 0; reducerBuf = rb; reducerUsed = sw .used; reducerTotal = 0; reducerReplaced = 0 } ≡ startWorld hd P μ (s .0) =
+    ap (λ (x : Substituted). record { stepperBuf = sb; store = μ; stepperUsed = cu; stepperTotal = 0; reducerBuf = rb; reducerUsed = x .used; reducerTotal = 0; reducerReplaced = 0 }) se ∙ sym (s .1) in
     let after : w ≡ play (startWorld hd P μ (s .0)) os = ew ∙ ap (λ (x : World). play x os) begins in
     subst (Agree hd) (sym after)
     (demand3 hd P μ (s .0) os (subst (λ (n : ℕ). AllAllowed n os) is-k a) (subst (λ (x : World). x .stepperTotal ≡ x .reducerTotal) after e))

@@ -6,4 +6,5 @@ pub mod Demand3Laws
 pub mod ExamplesLaws
 pub mod AddStepsLaws
 pub mod WeighedStoreLaws
+pub mod SameReplacedLaws
 pub mod Witness

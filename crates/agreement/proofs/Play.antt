@@ -1,7 +1,7 @@
 -- A list of orders: each engine stands as many steps from its start as its total says, and its buffer holds that state.
 use Prim.Native.Nat.{suc, zero, ℕ, _≤_}
 use mathlib.Core.Path.{ap, refl, subst, sym, _∙_, _≡_}
-use mathlib.Core.List.{List}
+use mathlib.Core.List.{List, [], _∷_}
 use lib.ListN.{length}
 use native.Mathlib.Nat.{add-zero}
 use native.Mathlib.Omega.{arith}
@@ -11,8 +11,9 @@ use Rattle.record.specs.Holding.{ProgramIn, TermIn}
 use Rattle.record.specs.Rows.{firstRow, holds}
 use Rattle.reducer.specs.RunReducer.{reducerRows, runReducer}
 use Rattle.rules.specs.FreeVariables.{noVars}
-use Rattle.rules.specs.Play.{Moves, Stands}
+use Rattle.rules.specs.Play.{Each, Moves, Stands}
 use Rattle.rules.specs.Reduction.{reduce}
+use Rattle.rules.specs.Replaced.{ReductionsReplacing}
 use Rattle.rules.specs.Run.{iterate}
 use Rattle.rules.specs.Sound.{SmallValues, SoundConfig}
 use Rattle.rules.specs.Step.{step}
@@ -21,6 +22,7 @@ use Rattle.run.specs.RunAnswer.{refusal}
 use Rattle.stepper.specs.RunStepper.{runStepper, stepperRows}
 use Rattle.reducer.proofs.RunReducerLaws.{reducer-ran, reducer-refused, reducer-takes}
 use Rattle.rules.proofs.PlayLaws.{stands-plays}
+use Rattle.rules.proofs.ReplacedLaws.{replacing-add}
 use Rattle.stepper.proofs.RunStepperLaws.{stepper-ran, stepper-refused, stepper-takes}
 use Rattle.agreement.specs.Examples.{budget}
 use Rattle.agreement.specs.Orders.{AllAllowed, Allowed, Lent, Order, World, afterReducer, afterStepper, lentStore, order, other, own, play, storeAfter, toReducer, toStepper, usedAfter}
@@ -32,8 +34,10 @@ pub record StepperHolds (hd : Header) (w : World) (c : Config) : Type 0 where
   pub store : w .store ≡ c .store
   pub sound : SoundConfig (okOf hd) (hd .k) c
 
-abbrev pub ReducerHolds : Header → World → Term → Type 0
-ReducerHolds hd w t = TermIn noVars hd t (w .reducerBuf) (w .reducerUsed)
+-- and the reducer's totals are those of the rules' reductions from t₀ to the term
+pub record ReducerHolds (hd : Header) (t₀ : Term) (w : World) (t : Term) : Type 0 where
+  pub term : TermIn noVars hd t (w .reducerBuf) (w .reducerUsed)
+  pub counted : ReductionsReplacing (okOf hd) t₀ (w .reducerTotal) (w .reducerReplaced) t
 
 -- where a number is 0 and where it is not
 by-number : {P : Type 0} (n : ℕ) → (n ≡ 0 → P) → ((n ≡ 0 → ⊥) → P) → P
@@ -56,9 +60,22 @@ unfolding afterStepper storeAfter lentStore
 refused-stepper w own m h = rw (used-refused m 0 (w .stepperUsed) h, add-zero (w .stepperTotal)) refl
 refused-stepper w (other xs) m h = rw (used-refused m 0 (w .stepperUsed) h, add-zero (w .stepperTotal)) refl
 
-refused-reducer : (w : World) (m : ℕ) → (m ≡ 0 → ⊥) → afterReducer w (record { answer = refusal m; buf = w .reducerBuf }) ≡ w
+-- the reducer's numbers being what they were, the world is
+same-numbers : (w : World) (used total replaced : ℕ) → used ≡ w .reducerUsed → total ≡ w .reducerTotal → replaced ≡ w .reducerReplaced → record {
+  stepperBuf = w .stepperBuf;
+  store = w .store;
+  stepperUsed = w .stepperUsed;
+  stepperTotal = w .stepperTotal;
+  reducerBuf = w .reducerBuf;
+  reducerUsed = used;
+  reducerTotal = total;
+  reducerReplaced = replaced;
+} ≡ w
+same-numbers w used total replaced a b c = rw (a, b, c) refl
+
+refused-reducer : (w : World) (m : ℕ) → (m ≡ 0 → ⊥) → afterReducer w (record { answer = refusal m; replaced = 0; buf = w .reducerBuf }) ≡ w
 unfolding afterReducer
-refused-reducer w m h = rw (used-refused m 0 (w .reducerUsed) h, add-zero (w .reducerTotal)) refl
+refused-reducer w m h = same-numbers w _ _ _ (used-refused m 0 (w .reducerUsed) h) (add-zero (w .reducerTotal)) (add-zero (w .reducerReplaced))
 
 module _ (hd : Header) where
   -- THE STEPPER'S SIDE of one order
@@ -116,25 +133,34 @@ module _ (hd : Header) where
     holds = record { program = h .program; store = h .store; sound = h .sound };
   }
 
+  -- AFTER A LIST
+
+  abbrev pub StepperStands : Config → World → Type 0
+  StepperStands = Stands (step (okOf hd)) (λ (w : World). w .stepperTotal) order (StepperHolds hd)
+
+  pub stepper-stands : (c : Config) (os : List Order) (w : World) → AllAllowed (hd .k) os → StepperStands c w → StepperStands c (play w os)
+  stepper-stands = stands-plays (step (okOf hd)) (λ (w : World). w .stepperTotal) order (StepperHolds hd) (Allowed (hd .k)) stepper-moves
+
+module _ (hd : Header) (t₀ : Term) where
   -- THE REDUCER'S SIDE of one order
 
   abbrev pub ReducerMoves : World → Order → Term → Type 0
-  ReducerMoves = Moves (reduce (okOf hd)) (λ (w : World). w .reducerTotal) order (ReducerHolds hd)
+  ReducerMoves = Moves (reduce (okOf hd)) (λ (w : World). w .reducerTotal) order (ReducerHolds hd t₀)
 
-  reducer-stays : (w : World) (o : Order) (t : Term) → ReducerHolds hd w t → order w o ≡ w → ReducerMoves w o t
+  reducer-stays : (w : World) (o : Order) (t : Term) → ReducerHolds hd t₀ w t → order w o ≡ w → ReducerMoves w o t
   unfolding iterate
   reducer-stays w o t h e = record {
     state = t;
     count = 0;
     counted = ap (λ (v : World). v .reducerTotal) e ∙ sym (add-zero (w .reducerTotal));
     stepped = refl;
-    holds = subst (λ v. ReducerHolds hd v t) (sym e) h;
+    holds = subst (λ v. ReducerHolds hd t₀ v t) (sym e) h;
   }
 
-  reducer-moved : (w : World) (budget : ℕ) (t : Term) → ReducerHolds hd w t → length (w .reducerBuf) ≤ 16384 → ReducerMoves w (toReducer (w .reducerUsed) budget) t
+  reducer-moved : (w : World) (budget : ℕ) (t : Term) → ReducerHolds hd t₀ w t → length (w .reducerBuf) ≤ 16384 → ReducerMoves w (toReducer (w .reducerUsed) budget) t
   unfolding order afterReducer
   reducer-moved w budget t h l =
-      let r = reducer-ran h l budget in
+      let r = reducer-ran (h .term) l budget in
       let call = runReducer (w .reducerBuf) (w .reducerUsed) budget in
       let used = used-accepted (call .answer .number) (call .answer .used) (w .reducerUsed) (r .ran .number) in
       record {
@@ -142,35 +168,36 @@ module _ (hd : Header) where
         count = call .answer .steps;
         counted = refl;
         stepped = r .ran .stepped;
-        holds = subst (TermIn noVars hd (r .t) (call .buf)) (sym used) (r .again);
+        holds = record {
+          term = subst (TermIn noVars hd (r .t) (call .buf)) (sym used) (r .again);
+          counted = replacing-add (okOf hd) (h .counted) (r .replaces);
+        };
       }
 
-  pub reducer-moves : (w : World) (o : Order) (t : Term) → Allowed (hd .k) o → ReducerHolds hd w t → ReducerMoves w o t
+  reducer-moves : (w : World) (o : Order) (t : Term) → Unit {0} → ReducerHolds hd t₀ w t → ReducerMoves w o t
   unfolding order afterStepper
   reducer-moves w (toStepper used lent budget) t a h = unfold iterate in record {
     state = t;
     count = 0;
     counted = sym (add-zero (w .reducerTotal));
     stepped = refl;
-    holds = h;
+    holds = record { term = h .term; counted = h .counted };
   }
   reducer-moves w (toReducer used budget) t a h =
       by-number (firstRow (reducerRows (w .reducerBuf) used))
-      (λ z. let r = reducer-takes h used z in
+      (λ z. let r = reducer-takes (h .term) used z in
       subst (λ n. ReducerMoves w (toReducer n budget) t) (sym (r .same)) (reducer-moved w budget t h (r .low)))
       (λ n. reducer-stays w (toReducer used budget) t h
       (ap (afterReducer w) (reducer-refused (w .reducerBuf) used budget n) ∙ refused-reducer w _ n))
 
-  -- AFTER A LIST
+  -- AFTER A LIST, whatever is lent to the stepper in it
 
-  abbrev pub StepperStands : Config → World → Type 0
-  StepperStands = Stands (step (okOf hd)) (λ (w : World). w .stepperTotal) order (StepperHolds hd)
+  abbrev pub ReducerStands : World → Type 0
+  ReducerStands = Stands (reduce (okOf hd)) (λ (w : World). w .reducerTotal) order (ReducerHolds hd t₀) t₀
 
-  abbrev pub ReducerStands : Term → World → Type 0
-  ReducerStands = Stands (reduce (okOf hd)) (λ (w : World). w .reducerTotal) order (ReducerHolds hd)
-
-  pub stepper-stands : (c : Config) (os : List Order) (w : World) → AllAllowed (hd .k) os → StepperStands c w → StepperStands c (play w os)
-  stepper-stands = stands-plays (step (okOf hd)) (λ (w : World). w .stepperTotal) order (StepperHolds hd) (Allowed (hd .k)) stepper-moves
-
-  pub reducer-stands : (t : Term) (os : List Order) (w : World) → AllAllowed (hd .k) os → ReducerStands t w → ReducerStands t (play w os)
-  reducer-stands = stands-plays (reduce (okOf hd)) (λ (w : World). w .reducerTotal) order (ReducerHolds hd) (Allowed (hd .k)) reducer-moves
+  pub reducer-stands : (os : List Order) (w : World) → ReducerStands w → ReducerStands (play w os)
+  reducer-stands os w = stands-plays (reduce (okOf hd)) (λ (w : World). w .reducerTotal) order (ReducerHolds hd t₀) (λ o. Unit {0}) reducer-moves t₀ os w (each-any os)
+    where
+      each-any : (os : List Order) → Each (λ (o : Order). Unit {0}) os
+      each-any [] = tt
+      each-any (o ∷ os) = (tt, each-any os)

@@ -10,12 +10,13 @@ use Rattle.record.specs.Header.{encodeProgram, encodeTerm, okOf}
 use Rattle.record.specs.Holding.{ProgramIn, TermIn}
 use Rattle.record.specs.Program.{BlockWords}
 use Rattle.rules.specs.FreeVariables.{allVars, noVars}
+use Rattle.rules.specs.Replaced.{replaced}
 use Rattle.rules.specs.Sound.{SmallValues, SoundTerm}
 use Rattle.rules.specs.Substitution.{fromStore, stateOf, substitute}
 use Rattle.rules.specs.Syntax.{Block, Term}
 use Rattle.rules.specs.Translation.{translate}
 use Rattle.reducer.specs.RunReducer.{runReducer}
-use Rattle.term.specs.Calls.{substituteCall, translateCall}
+use Rattle.term.specs.Calls.{Substituted, substituteCall, translateCall}
 use Rattle.record.proofs.HeaderLaws.{ok-limit}
 use Rattle.record.proofs.HoldingLaws.{checked-fits, checked-holds, checked-low, padded-term, program-elsewhere}
 use Rattle.record.proofs.PaddedLaws.{length-padded}
@@ -66,7 +67,7 @@ module _ (h : Header) (P : Block) (cb : List ℕ) (cu : ℕ) (checked : checkPro
         sound = sound-translate (okOf h) (ok-limit h) (h .k) P (program-holds .isProgram .variables) (program-holds .isProgram .literals);
       }
 
-      gives : substituteCall buf used μ ≡ record { number = 0; used = used; written = padded (length buf) (encodeTerm h closedTerm) }
+      gives : substituteCall buf used μ ≡ record { number = 0; used = used; replaced = replaced (fromStore μ) (translate (h .k) P); written = padded (length buf) (encodeTerm h closedTerm) }
       gives = substitute-gives term (t .low) μ size
 
       closed-in : TermIn noVars h closedTerm (padded (length buf) (encodeTerm h closedTerm)) used
@@ -81,11 +82,11 @@ module _ (h : Header) (P : Block) (cb : List ℕ) (cu : ℕ) (checked : checkPro
 
       reduces : (budget : ℕ) → (runReducer ((substituteCall buf used μ) .written) ((substituteCall buf used μ) .used) budget) .answer .number ≡ 0
       reduces budget =
-          subst (λ (w : Wrote). (runReducer (w .written) (w .used) budget) .answer .number ≡ 0) (sym gives)
+          subst (λ (w : Substituted). (runReducer (w .written) (w .used) budget) .answer .number ≡ 0) (sym gives)
           (reducer-number (padded (length buf) (encodeTerm h closedTerm)) used budget ∙ reducer-passes closed-in closed-low)
 
       left : take ((substituteCall buf used μ) .used) ((substituteCall buf used μ) .written) ≡ encodeTerm h closedTerm
-      left = subst (λ (w : Wrote). take (w .used) (w .written) ≡ encodeTerm h closedTerm) (sym gives) (closed-in .bytes)
+      left = subst (λ (w : Substituted). take (w .used) (w .written) ≡ encodeTerm h closedTerm) (sym gives) (closed-in .bytes)
 
       start : (stepperBuf : List ℕ) → take cu stepperBuf ≡ take cu cb
           → (reducerBuf : List ℕ) → (substituteCall buf used μ) .used ≤ length reducerBuf
@@ -100,7 +101,7 @@ module _ (h : Header) (P : Block) (cb : List ℕ) (cu : ℕ) (checked : checkPro
         termBuf = buf;
         termUsed = used;
         term = t .bytes;
-        substituted = ap (λ (w : Wrote). w .number) gives;
+        substituted = ap (λ (w : Substituted). w .number) gives;
         storeValues = values;
         stepperBuf = stepperBuf;
         stepperBegins = begins ∙ program;
@@ -114,7 +115,7 @@ module _ (h : Header) (P : Block) (cb : List ℕ) (cu : ℕ) (checked : checkPro
     unfolding start
     engines-take = record {
       stepper = λ buf budget l e. stepper-number buf cu μ budget ∙ stepper-passes (program-elsewhere program-holds buf (e ∙ program)) l μ size;
-      substitutes = λ buf used t. ap (λ (w : Wrote). w .number) (gives buf used t);
+      substitutes = λ buf used t. ap (λ (w : Substituted). w .number) (gives buf used t);
       translates = translates;
       reducer = reduces;
       start = λ buf used t stepperBuf e reducerBuf l same. (start buf used t stepperBuf e reducerBuf l same, refl);

@@ -20,6 +20,7 @@ use Rattle.rules.specs.FreeVariables.{adding, closed, closedAtom, closedAtoms, 
 use Rattle.rules.specs.Play.{plays}
 use Rattle.rules.specs.ReadBack.{blockOfSource, boundOf, exprOf, readBack, sameAtom, sameAtoms, source, sourceLetAll, sourceLetOne, sourceRec}
 use Rattle.rules.specs.Reduction.{onNext, reduce, reduceInside, reduceLetOne, unrollRec, valueOf}
+use Rattle.rules.specs.Replaced.{given, orZero, replaced, replacedAtom, replacedAtoms, replacedLetAll, replacedLetOne, replacedNext, replacedSimple, replacedSum}
 use Rattle.rules.specs.Run.{goOn, iterate, oneMore, orStop, outcomeOf, run, runOn, stop}
 use Rattle.rules.specs.Scope.{atomInRange, atomsInRange, blockInRange, boundInRange, exprInRange, inRange, simpleInRange, termInRange}
 use Rattle.rules.specs.Step.{boundValue, step, stepAssign, stepBlock, stepInside, unrollLoop}
@@ -28,7 +29,7 @@ use Rattle.rules.specs.Substitution.{except, fromStore, only, orRef, stateOf, s
 use Rattle.rules.specs.Translation.{atomOf, refs, simpleOf, translate}
 use Rattle.run.specs.RunAnswer.{outcomeNumber, roomFor}
 use Rattle.stepper.specs.RunStepper.{runStepper, steppedTo, stepperBy}
-use Rattle.term.specs.Calls.{noSource, numerals, readBackCall, resultCall, substituteCall, substituted, tooShort, translateCall}
+use Rattle.term.specs.Calls.{noSource, numerals, readBackCall, resultCall, substituteCall, substituted, substitutedBy, tooShort, translateCall}
 use Rattle.agreement.specs.Demand3.{Agree, Demand3, Start, startWorld}
 use Rattle.agreement.specs.Examples.{acceptedValues, add, budget, configOf, endingOfReducer, endingOfStepper, expected, examples, ofVariables, programBytesOf, reducerEnding, reducerExpected, shown, shownBy, shownFrom, stepperEnding, substitutedOf, translatedOf}
 use Rattle.agreement.specs.Orders.{Order, afterReducer, afterStepper, lentStore, order, other, own, play, storeAfter, toReducer, toStepper, usedAfter}
@@ -40,7 +41,7 @@ use Rattle.agreement.proofs.WeighedStoreLaws.{weighed-store}
 
 -- P1, in a stepper's buffer of 160 bytes and a reducer's of 400, with nines behind the records
 pub witness : Start (ofVariables 4) add (7 ∷ 3 ∷ 0 ∷ 0 ∷ [])
-unfolding adding closedAtom closedAtoms closedSimple closedIn closed plays sameAtom sameAtoms exprOf boundOf sourceLetOne sourceLetAll sourceRec source blockOfSource readBack valueOf unrollRec reduceInside reduceLetOne reduce onNext orStop iterate outcomeOf stop oneMore goOn runOn run inRange exprInRange boundInRange blockInRange atomInRange atomsInRange simpleInRange termInRange boundValue unrollLoop stepInside stepAssign stepBlock step upTo minusOne lookup update fromStore only except orRef substituteAtom substituteSimple substitute stateOf refs simpleOf atomOf translate le val padded checkedBy checkProgram checkTerm wroteBy storedBy fuelled fixed lengthField kindField kField kindOf largestOf fieldsOf contentsAt contents headed blockBytes encodeTermRecord blockIn termIn encodeProgram encodeTerm exprKind exprNumber boundKind boundNumber exprFrom boundFrom encodeBlock blockSize commandKind decodeCommand decodeBlockPart decodeBlockStep decodeBlock then bind atEnd fromSome pick word ofKind subOf sub encodeLeaf leafOf leaf anyRecordOf anyRecord encodeRecord cut split pickRow firstRow isNone holds orElse tooLong badBuffer badHeader badK badBlock badTerm blockOutside termOutside badStore openTerm finishedTerm unfinished atomKind atomNumber atomFrom encodeAtoms decodeAtoms simpleKindIf encodeSimple simpleSize onlyAtom plainOf simpleBy simpleFrom readSimple kindOfTerm termContents termSize termKindIf termKind lastTerm decodeTermKind decodeTermStep measureTerm decodeTerm outcomeNumber roomFor tooShort translateCall noSource readBackCall substituteCall numerals resultCall steppedTo stepperBy runStepper reducedTo reducerBy runReducer shownBy budget stepperEnding reducerEnding configOf programBytesOf translatedOf substitutedOf endingOfStepper acceptedValues endingOfReducer shownFrom shown reducerExpected expected examples lentStore storeAfter usedAfter afterStepper afterReducer order
+unfolding adding closedAtom closedAtoms closedSimple closedIn closed plays sameAtom sameAtoms exprOf boundOf sourceLetOne sourceLetAll sourceRec source blockOfSource readBack valueOf unrollRec reduceInside reduceLetOne reduce onNext orStop iterate outcomeOf stop oneMore goOn runOn run inRange exprInRange boundInRange blockInRange atomInRange atomsInRange simpleInRange termInRange boundValue unrollLoop stepInside stepAssign stepBlock step upTo minusOne lookup update fromStore only except orRef substituteAtom substituteSimple substitute stateOf refs simpleOf atomOf translate le val padded checkedBy checkProgram checkTerm wroteBy storedBy fuelled fixed lengthField kindField kField kindOf largestOf fieldsOf contentsAt contents headed blockBytes encodeTermRecord blockIn termIn encodeProgram encodeTerm exprKind exprNumber boundKind boundNumber exprFrom boundFrom encodeBlock blockSize commandKind decodeCommand decodeBlockPart decodeBlockStep decodeBlock then bind atEnd fromSome pick word ofKind subOf sub encodeLeaf leafOf leaf anyRecordOf anyRecord encodeRecord cut split pickRow firstRow isNone holds orElse tooLong badBuffer badHeader badK badBlock badTerm blockOutside termOutside badStore openTerm finishedTerm unfinished atomKind atomNumber atomFrom encodeAtoms decodeAtoms simpleKindIf encodeSimple simpleSize onlyAtom plainOf simpleBy simpleFrom readSimple kindOfTerm termContents termSize termKindIf termKind lastTerm decodeTermKind decodeTermStep measureTerm decodeTerm outcomeNumber roomFor tooShort translateCall noSource readBackCall substituteCall substitutedBy numerals resultCall steppedTo stepperBy runStepper reducedTo reducerBy runReducer shownBy budget stepperEnding reducerEnding configOf programBytesOf translatedOf substitutedOf endingOfStepper acceptedValues endingOfReducer shownFrom shown reducerExpected expected examples lentStore storeAfter usedAfter afterStepper afterReducer order
 witness = record {
   checkBuf = encodeProgram (ofVariables 4) add;
   checkUsed = 64;
@@ -76,10 +77,21 @@ orders = toStepper 64 own 5
 pub record Totals : Type 0 where
   pub stepper : (play (startWorld (ofVariables 4) add (7 ∷ 3 ∷ 0 ∷ 0 ∷ []) witness) orders) .stepperTotal ≡ 7
   pub reducer : (play (startWorld (ofVariables 4) add (7 ∷ 3 ∷ 0 ∷ 0 ∷ []) witness) orders) .reducerTotal ≡ 7
+  -- x3 := x1 replaces 1, four unrollings none, the first turn's let-all 3 and its index 1
+  pub replaced : (play (startWorld (ofVariables 4) add (7 ∷ 3 ∷ 0 ∷ 0 ∷ []) witness) orders) .reducerReplaced ≡ 5
 
 pub totals : Totals
-unfolding witness adding closedAtom closedAtoms closedSimple closedIn closed plays sameAtom sameAtoms exprOf boundOf sourceLetOne sourceLetAll sourceRec source blockOfSource readBack valueOf unrollRec reduceInside reduceLetOne reduce onNext orStop iterate outcomeOf stop oneMore goOn runOn run inRange exprInRange boundInRange blockInRange atomInRange atomsInRange simpleInRange termInRange boundValue unrollLoop stepInside stepAssign stepBlock step upTo minusOne lookup update fromStore only except orRef substituteAtom substituteSimple substitute stateOf refs simpleOf atomOf translate le val padded checkedBy checkProgram checkTerm wroteBy storedBy fuelled fixed lengthField kindField kField kindOf largestOf fieldsOf contentsAt contents headed blockBytes encodeTermRecord blockIn termIn encodeProgram encodeTerm exprKind exprNumber boundKind boundNumber exprFrom boundFrom encodeBlock blockSize commandKind decodeCommand decodeBlockPart decodeBlockStep decodeBlock then bind atEnd fromSome pick word ofKind subOf sub encodeLeaf leafOf leaf anyRecordOf anyRecord encodeRecord cut split pickRow firstRow isNone holds orElse tooLong badBuffer badHeader badK badBlock badTerm blockOutside termOutside badStore openTerm finishedTerm unfinished atomKind atomNumber atomFrom encodeAtoms decodeAtoms simpleKindIf encodeSimple simpleSize onlyAtom plainOf simpleBy simpleFrom readSimple kindOfTerm termContents termSize termKindIf termKind lastTerm decodeTermKind decodeTermStep measureTerm decodeTerm outcomeNumber roomFor tooShort translateCall noSource readBackCall substituteCall numerals resultCall steppedTo stepperBy runStepper reducedTo reducerBy runReducer shownBy budget stepperEnding reducerEnding configOf programBytesOf translatedOf substitutedOf endingOfStepper acceptedValues endingOfReducer shownFrom shown reducerExpected expected examples lentStore storeAfter usedAfter afterStepper afterReducer order
-totals = record { stepper = refl; reducer = refl }
+unfolding witness adding closedAtom closedAtoms closedSimple closedIn closed plays sameAtom sameAtoms exprOf boundOf sourceLetOne sourceLetAll sourceRec source blockOfSource readBack valueOf unrollRec reduceInside reduceLetOne reduce onNext orStop iterate outcomeOf stop oneMore goOn runOn run inRange exprInRange boundInRange blockInRange atomInRange atomsInRange simpleInRange termInRange boundValue unrollLoop stepInside stepAssign stepBlock step upTo minusOne lookup update fromStore only except orRef substituteAtom substituteSimple substitute stateOf refs simpleOf atomOf translate le val padded checkedBy checkProgram checkTerm wroteBy storedBy fuelled fixed lengthField kindField kField kindOf largestOf fieldsOf contentsAt contents headed blockBytes encodeTermRecord blockIn termIn encodeProgram encodeTerm exprKind exprNumber boundKind boundNumber exprFrom boundFrom encodeBlock blockSize commandKind decodeCommand decodeBlockPart decodeBlockStep decodeBlock then bind atEnd fromSome pick word ofKind subOf sub encodeLeaf leafOf leaf anyRecordOf anyRecord encodeRecord cut split pickRow firstRow isNone holds orElse tooLong badBuffer badHeader badK badBlock badTerm blockOutside termOutside badStore openTerm finishedTerm unfinished atomKind atomNumber atomFrom encodeAtoms decodeAtoms simpleKindIf encodeSimple simpleSize onlyAtom plainOf simpleBy simpleFrom readSimple kindOfTerm termContents termSize termKindIf termKind lastTerm decodeTermKind decodeTermStep measureTerm decodeTerm outcomeNumber roomFor tooShort translateCall noSource readBackCall substituteCall substitutedBy given replaced replacedAtom replacedAtoms replacedSimple replacedLetOne replacedLetAll replacedNext orZero replacedSum numerals resultCall steppedTo stepperBy runStepper reducedTo reducerBy runReducer shownBy budget stepperEnding reducerEnding configOf programBytesOf translatedOf substitutedOf endingOfStepper acceptedValues endingOfReducer shownFrom shown reducerExpected expected examples lentStore storeAfter usedAfter afterStepper afterReducer order
+totals = record { stepper = refl; reducer = refl; replaced = refl }
+
+-- the whole of P1: its substitution replaces 5 variables, and its 18 reductions 20
+pub record Counts : Type 0 where
+  pub substitution : (substituteCall (witness .termBuf) 172 (7 ∷ 3 ∷ 0 ∷ 0 ∷ [])) .replaced ≡ 5
+  pub run : (runReducer (witness .reducerBuf) 172 budget) .replaced ≡ 20
+
+pub counts : Counts
+unfolding witness adding closedAtom closedAtoms closedSimple closedIn closed plays sameAtom sameAtoms exprOf boundOf sourceLetOne sourceLetAll sourceRec source blockOfSource readBack valueOf unrollRec reduceInside reduceLetOne reduce onNext orStop iterate outcomeOf stop oneMore goOn runOn run inRange exprInRange boundInRange blockInRange atomInRange atomsInRange simpleInRange termInRange boundValue unrollLoop stepInside stepAssign stepBlock step upTo minusOne lookup update fromStore only except orRef substituteAtom substituteSimple substitute stateOf refs simpleOf atomOf translate le val padded checkedBy checkProgram checkTerm wroteBy storedBy fuelled fixed lengthField kindField kField kindOf largestOf fieldsOf contentsAt contents headed blockBytes encodeTermRecord blockIn termIn encodeProgram encodeTerm exprKind exprNumber boundKind boundNumber exprFrom boundFrom encodeBlock blockSize commandKind decodeCommand decodeBlockPart decodeBlockStep decodeBlock then bind atEnd fromSome pick word ofKind subOf sub encodeLeaf leafOf leaf anyRecordOf anyRecord encodeRecord cut split pickRow firstRow isNone holds orElse tooLong badBuffer badHeader badK badBlock badTerm blockOutside termOutside badStore openTerm finishedTerm unfinished atomKind atomNumber atomFrom encodeAtoms decodeAtoms simpleKindIf encodeSimple simpleSize onlyAtom plainOf simpleBy simpleFrom readSimple kindOfTerm termContents termSize termKindIf termKind lastTerm decodeTermKind decodeTermStep measureTerm decodeTerm outcomeNumber roomFor tooShort translateCall noSource readBackCall substituteCall substitutedBy given replaced replacedAtom replacedAtoms replacedSimple replacedLetOne replacedLetAll replacedNext orZero replacedSum numerals resultCall steppedTo stepperBy runStepper reducedTo reducerBy runReducer shownBy budget stepperEnding reducerEnding configOf programBytesOf translatedOf substitutedOf endingOfStepper acceptedValues endingOfReducer shownFrom shown reducerExpected expected examples lentStore storeAfter usedAfter afterStepper afterReducer order
+counts = record { substitution = refl; run = refl }
 
 -- so the engines agree after that list
 pub agreed : Agree (ofVariables 4) (play (startWorld (ofVariables 4) add (7 ∷ 3 ∷ 0 ∷ 0 ∷ []) witness) orders)
@@ -99,7 +111,7 @@ weighed-witness =
 
 -- after 4 steps the loop is unrolled three times, and a fourth asks for 192 bytes; after one reduction the first asks for 232
 pub rooms-differ : RoomsDiffer
-unfolding witness adding closedAtom closedAtoms closedSimple closedIn closed valueOf unrollRec reduceInside reduceLetOne reduce outcomeOf stop oneMore goOn runOn run inRange exprInRange boundInRange blockInRange atomInRange atomsInRange simpleInRange termInRange boundValue unrollLoop stepInside stepAssign stepBlock step upTo lookup update fromStore only except orRef substituteAtom substituteSimple substitute refs simpleOf atomOf translate le val padded checkedBy checkProgram wroteBy fuelled fixed lengthField kindField kField kindOf largestOf fieldsOf contentsAt contents headed blockBytes encodeTermRecord blockIn termIn encodeProgram encodeTerm exprKind exprNumber boundKind boundNumber exprFrom boundFrom encodeBlock commandKind decodeCommand decodeBlockPart decodeBlockStep decodeBlock then bind atEnd fromSome pick word ofKind subOf sub encodeLeaf leafOf leaf anyRecordOf anyRecord encodeRecord cut split pickRow firstRow isNone holds orElse tooLong badBuffer badHeader badK badBlock badTerm blockOutside termOutside badStore openTerm atomKind atomNumber atomFrom encodeAtoms decodeAtoms simpleKindIf encodeSimple onlyAtom plainOf simpleBy simpleFrom readSimple kindOfTerm termContents termKindIf termKind lastTerm decodeTermKind decodeTermStep measureTerm decodeTerm roomFor substituteCall steppedTo stepperBy runStepper reducedTo reducerBy runReducer budget
+unfolding witness adding closedAtom closedAtoms closedSimple closedIn closed valueOf unrollRec reduceInside reduceLetOne reduce outcomeOf stop oneMore goOn runOn run inRange exprInRange boundInRange blockInRange atomInRange atomsInRange simpleInRange termInRange boundValue unrollLoop stepInside stepAssign stepBlock step upTo lookup update fromStore only except orRef substituteAtom substituteSimple substitute refs simpleOf atomOf translate le val padded checkedBy checkProgram wroteBy fuelled fixed lengthField kindField kField kindOf largestOf fieldsOf contentsAt contents headed blockBytes encodeTermRecord blockIn termIn encodeProgram encodeTerm exprKind exprNumber boundKind boundNumber exprFrom boundFrom encodeBlock commandKind decodeCommand decodeBlockPart decodeBlockStep decodeBlock then bind atEnd fromSome pick word ofKind subOf sub encodeLeaf leafOf leaf anyRecordOf anyRecord encodeRecord cut split pickRow firstRow isNone holds orElse tooLong badBuffer badHeader badK badBlock badTerm blockOutside termOutside badStore openTerm atomKind atomNumber atomFrom encodeAtoms decodeAtoms simpleKindIf encodeSimple onlyAtom plainOf simpleBy simpleFrom readSimple kindOfTerm termContents termKindIf termKind lastTerm decodeTermKind decodeTermStep measureTerm decodeTerm roomFor substituteCall substitutedBy steppedTo stepperBy runStepper reducedTo reducerBy runReducer budget
 rooms-differ = record {
   header = ofVariables 4;
   program = add;

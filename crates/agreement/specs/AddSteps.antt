@@ -55,4 +55,4 @@ pub record AddSteps : Type 0 where
   pub reducerRuns : (x1 x2 x3 x4 : ℕ) (buf : List ℕ) (budget : ℕ) → SmallValues (okOf (ofVariables 4)) (four x1 x2 x3 x4) → x1 + x2 ≤ largestOf (ofVariables 4)
       → take 172 buf ≡ encodeTerm (ofVariables 4) (stateOf 4 (at add (four x1 x2 x3 x4))) → length buf ≤ 16384 → 156 + 76 * x2 ≤ length buf → addSteps x2 ≤ budget
       → runReducer buf 172 budget
-      ≡ reducedTo (ofVariables 4) (length buf) budget (record { count = addSteps x2; outcome = isFinished; state = tuple (map num (addEnd x1 x2 x4)) })
+      ≡ reducedTo (ofVariables 4) (length buf) budget (stateOf 4 (at add (four x1 x2 x3 x4))) (record { count = addSteps x2; outcome = isFinished; state = tuple (map num (addEnd x1 x2 x4)) })

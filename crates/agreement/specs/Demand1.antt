@@ -57,11 +57,11 @@ pub record Demand1 : Type 0 where
   pub readBackRefused : (src : List ℕ) (used : ℕ) (out : List ℕ) → (firstRow (readBackRows src used out) ≡ 0 → ⊥)
       → readBackCall src used out ≡ record { number = firstRow (readBackRows src used out); used = 0; written = out }
   pub substituteRefused : (buf : List ℕ) (used : ℕ) (store : List ℕ) → (firstRow (substituteRows buf used store) ≡ 0 → ⊥)
-      → substituteCall buf used store ≡ record { number = firstRow (substituteRows buf used store); used = 0; written = buf }
+      → substituteCall buf used store ≡ record { number = firstRow (substituteRows buf used store); used = 0; replaced = 0; written = buf }
   pub stepperRefused : (buf : List ℕ) (used : ℕ) (store : List ℕ) (budget : ℕ) → (firstRow (stepperRows buf used store) ≡ 0 → ⊥)
       → runStepper buf used store budget ≡ record { answer = refusal (firstRow (stepperRows buf used store)); buf = buf; store = store }
   pub reducerRefused : (buf : List ℕ) (used budget : ℕ) → (firstRow (reducerRows buf used) ≡ 0 → ⊥)
-      → runReducer buf used budget ≡ record { answer = refusal (firstRow (reducerRows buf used)); buf = buf }
+      → runReducer buf used budget ≡ record { answer = refusal (firstRow (reducerRows buf used)); replaced = 0; buf = buf }
   pub resultRefused : (buf : List ℕ) (used : ℕ) (store : List ℕ) → (firstRow (resultRows buf used store) ≡ 0 → ⊥)
       → resultCall buf used store ≡ record { number = firstRow (resultRows buf used store); store = store }
   pub weighRefused : (rule gross tare : ℕ) (store : List ℕ) → (firstRow (weighRows rule store) ≡ 0 → ⊥)

@@ -20,7 +20,7 @@ use Rattle.rules.specs.Substitution.{fromStore, substitute}
 use Rattle.rules.specs.Syntax.{Atom, Block, Term, empty, num, over, tuple}
 use Rattle.rules.specs.Translation.{translate}
 use Rattle.stepper.specs.RunStepper.{runStepper}
-use Rattle.term.specs.Calls.{substituteCall, substituted, translateCall}
+use Rattle.term.specs.Calls.{Substituted, substituteCall, substituted, translateCall}
 use Rattle.agreement.specs.Orders.{AllAllowed, Order, World, play}
 
 -- THE START: the header, the program P, the store μ; the buffers that they are accepted in, and the two engines' buffers.
@@ -47,7 +47,7 @@ pub record Start (h : Header) (P : Block) (μ : List ℕ) : Type 0 where
   pub reducerFits : reducerUsed ≤ length reducerBuf
   pub reducerBegins : take reducerUsed reducerBuf ≡ encodeTerm h (substitute (fromStore μ) (translate (h .k) P))
 
--- Before the first order both totals are 0, and the used lengths are the records' own.
+-- Before the first order the totals are 0, and the used lengths are the records' own.
 abbrev pub startWorld : (h : Header) (P : Block) (μ : List ℕ) → Start h P μ → World
 startWorld h P μ s = record {
   stepperBuf = s .stepperBuf;
@@ -57,6 +57,7 @@ startWorld h P μ s = record {
   reducerBuf = s .reducerBuf;
   reducerUsed = s .reducerUsed;
   reducerTotal = 0;
+  reducerReplaced = 0;
 }
 
 -- READ FROM THE TWO STATES, whatever outcome was returned
@@ -124,9 +125,9 @@ Demand3Refusals = (h : Header) (P : Block) (μ : List ℕ) (s : Start h P μ) (o
 unfoldable pub Demand3Calls : Type 0
 Demand3Calls = (k : ℕ) (cb : List ℕ) (cu : ℕ) → Bytes cb → checkProgram cb cu ≡ record { number = 0; k = k }
     → (out : List ℕ) (t : Wrote) → t ≡ translateCall cb cu out → t .number ≡ 0
-    → (μ : List ℕ) → SmallValues (okOf (headerOf cb cu)) μ → (s : Wrote) → s ≡ substituteCall (t .written) (t .used) μ → s .number ≡ 0
+    → (μ : List ℕ) → SmallValues (okOf (headerOf cb cu)) μ → (s : Substituted) → s ≡ substituteCall (t .written) (t .used) μ → s .number ≡ 0
     → (sb : List ℕ) → take cu sb ≡ take cu cb
     → (rb : List ℕ) → s .used ≤ length rb → take (s .used) rb ≡ take (s .used) (s .written)
     → (os : List Order) → AllAllowed k os
-    → (w : World) → w ≡ play (record { stepperBuf = sb; store = μ; stepperUsed = cu; stepperTotal = 0; reducerBuf = rb; reducerUsed = s .used; reducerTotal = 0 }) os
+    → (w : World) → w ≡ play (record { stepperBuf = sb; store = μ; stepperUsed = cu; stepperTotal = 0; reducerBuf = rb; reducerUsed = s .used; reducerTotal = 0; reducerReplaced = 0 }) os
     → w .stepperTotal ≡ w .reducerTotal → Agree (headerOf cb cu) w

@@ -17,7 +17,7 @@ use Rattle.rules.specs.Syntax.{Block, Config, Term, assign, dec, empty, inc, li
 use Rattle.run.specs.RunAnswer.{runIn}
 use Rattle.stepper.specs.RunStepper.{StepperCall, runStepper, steps}
 use Rattle.stepping.specs.State.{configBytes}
-use Rattle.term.specs.Calls.{numerals, resultCall, substituteCall, translateCall}
+use Rattle.term.specs.Calls.{Substituted, numerals, resultCall, substituteCall, translateCall}
 
 -- What a run ends in: outcome, steps, and the values shown (the stepper's store; a finished term's numerals).
 pub record Ending : Type 0 where
@@ -89,7 +89,7 @@ unfoldable pub translatedOf : Example → Wrote
 translatedOf l = translateCall (programBytesOf l) (length (programBytesOf l)) (replicate (l .reducerRoom) 0)
 
 -- What substitute answers, of what translate wrote and of the store.
-unfoldable pub substitutedOf : Example → Wrote → Wrote
+unfoldable pub substitutedOf : Example → Wrote → Substituted
 substitutedOf l t = substituteCall (t .written) (t .used) (l .store)
 
 -- What a call of the stepper ends in.
@@ -105,7 +105,7 @@ unfoldable pub endingOfReducer : List ℕ → ReducerCall → Ending
 endingOfReducer store r = record { outcome = r .answer .outcome; steps = r .answer .steps; values = acceptedValues (resultCall (r .buf) (r .answer .used) store) }
 
 -- What is shown, by what translate and substitute answered.
-unfoldable pub shownFrom : Example → Wrote → Wrote → Shown
+unfoldable pub shownFrom : Example → Wrote → Substituted → Shown
 shownFrom l t s = record {
   checked = checkProgram (programBytesOf l) (length (programBytesOf l));
   programLength = length (programBytesOf l);

@@ -6,3 +6,4 @@ pub mod Examples
 pub mod AddSteps
 pub mod RoomsDiffer
 pub mod WeighedStore
+pub mod SameReplaced

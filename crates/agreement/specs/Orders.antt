@@ -17,7 +17,8 @@ pub data Order : Type 0 where
   toStepper : ℕ → Lent → ℕ → Order
   toReducer : ℕ → ℕ → Order
 
--- The two engines' buffers, the store, the used length that each engine's last accepted order gave, and each engine's total.
+-- The two engines' buffers, the store, the used length that each engine's last accepted order gave, each engine's total of steps, and
+-- the reducer's of variables replaced (02 C-13).
 pub record World : Type 0 where
   pub stepperBuf : List ℕ
   pub store : List ℕ
@@ -26,6 +27,7 @@ pub record World : Type 0 where
   pub reducerBuf : List ℕ
   pub reducerUsed : ℕ
   pub reducerTotal : ℕ
+  pub reducerReplaced : ℕ
 
 -- The values that an order to the stepper is lent in the world w.
 unfoldable pub lentStore : World → Lent → List ℕ
@@ -52,6 +54,7 @@ afterStepper w lent r = record {
   reducerBuf = w .reducerBuf;
   reducerUsed = w .reducerUsed;
   reducerTotal = w .reducerTotal;
+  reducerReplaced = w .reducerReplaced;
 }
 
 -- The same after an order to the reducer, which leaves the store alone.
@@ -64,6 +67,7 @@ afterReducer w r = record {
   reducerBuf = r .buf;
   reducerUsed = usedAfter (r .answer .number) (r .answer .used) (w .reducerUsed);
   reducerTotal = w .reducerTotal + r .answer .steps;
+  reducerReplaced = w .reducerReplaced + r .replaced;
 }
 
 -- One order: the very calls that the engines' contracts cite.

@@ -44,6 +44,7 @@ pub record EnginesTake (h : Header) (P : Block) (cb : List ℕ) (cu : ℕ) (μ :
         reducerBuf = reducerBuf;
         reducerUsed = (substituteCall buf used μ) .used;
         reducerTotal = 0;
+        reducerReplaced = 0;
       })
 
 -- Of every accepted weighing of a gross that is a value, by whichever rule, and every accepted program of as many variables as it

@@ -10,6 +10,7 @@ use native.Mathlib.Omega.{arith}
 use Rattle.buffer.specs.LittleEndian.{val}
 use Rattle.buffer.specs.Slice.{part}
 use Rattle.rules.specs.Reduction.{onNext, reduce, reduceInside, valueOf}
+use Rattle.rules.specs.Replaced.{replacedLetAll, replacedNext}
 use Rattle.rules.specs.Substitution.{fromStore, substitute}
 use Rattle.rules.specs.Syntax.{Answer, Atom, Term, finished, letAll, letOne, next, over, rec, tuple}
 use Rattle.record.specs.Term.{TermWords, encodeTermRecord, kindOfTerm, termSize}
@@ -212,3 +213,14 @@ reduce-letAll-tuple ok l u = refl
 pub reduce-redex : (ok : ℕ → Bool) (t : Term) → (kindOfTerm t ≡ 36 → ⊥) → reduce ok t ≡ onNext (plug terms (termPath t)) (reduce ok (redex t))
 reduce-redex ok t h =
     ap (reduce ok) (sym (plug-redex t)) ∙ reduce-plug ok (termPath t) (redex t) (redex-kind (redex t) (redex-is t h))
+
+-- and so is what it replaces
+pub replaced-redex : (t : Term) → replacedNext t ≡ replacedNext (redex t)
+unfolding replacedNext replacedLetAll redex
+replaced-redex (tuple l) = refl
+replaced-redex (letOne x s t) = refl
+replaced-redex (rec x a l t) = refl
+replaced-redex (letAll (tuple l) u) = refl
+replaced-redex (letAll (letOne x s t) u) = replaced-redex (letOne x s t)
+replaced-redex (letAll (letAll s t) u) = replaced-redex (letAll s t)
+replaced-redex (letAll (rec x a l t) u) = replaced-redex (rec x a l t)

@@ -16,7 +16,7 @@ use Rattle.record.proofs.HoldingLaws.{term-as-read, term-open, term-whole}
 use Rattle.record.proofs.RowLaws.{first-applies}
 use Rattle.rules.specs.FreeVariables.{allVars, closed}
 use Rattle.rules.specs.Syntax.{Term}
-use Rattle.run.specs.declared.RunEnd.{RunEnd}
+use Rattle.reducer.specs.declared.answer.Reduced.{Reduced}
 use Rattle.run.specs.Represents.{asRunAnswer}
 use Rattle.run.specs.RunAnswer.{refusal}
 use Rattle.reducer.specs.RunReducer.{ReducerCall, reducerRows, runReducer}
@@ -26,16 +26,16 @@ use borrow.Author.Tests.{not-false}
 
 -- A REFUSAL is by the first row that applies, and nothing has changed
 
-refuses : (buf : List ℕ) (used budget n : ℕ) → firstRow (reducerRows buf used) ≡ n → (n ≡ 0 → ⊥) → (r : RunEnd) → asRunAnswer r ≡ refusal n
+refuses : (buf : List ℕ) (used budget n : ℕ) → firstRow (reducerRows buf used) ≡ n → (n ≡ 0 → ⊥) → (r : Reduced) → (asRunAnswer (r .end) ≡ refusal n) × (r .replaced ≡ 0)
     → Gives r buf (runReducer buf used budget)
 refuses buf used budget n e h r answers =
-    let is : runReducer buf used budget ≡ record { answer = refusal n; buf = buf } =
-    reducer-refused buf used budget (λ z. h (sym e ∙ z)) ∙ ap (λ (m : ℕ). record { answer = refusal m; buf = buf }) e in
-    (answers ∙ ap (λ (c : ReducerCall). c .answer) (sym is), ap (λ (c : ReducerCall). c .buf) (sym is))
+    let is : runReducer buf used budget ≡ record { answer = refusal n; replaced = 0; buf = buf } =
+    reducer-refused buf used budget (λ z. h (sym e ∙ z)) ∙ ap (λ (m : ℕ). record { answer = refusal m; replaced = 0; buf = buf }) e in
+    (answers .0 ∙ ap (λ (c : ReducerCall). c .answer) (sym is), answers .1 ∙ ap (λ (c : ReducerCall). c .replaced) (sym is), ap (λ (c : ReducerCall). c .buf) (sym is))
 
 module _ (buf : List ℕ) (used budget n k : ℕ) (checked : checkTerm buf used ≡ record { number = n; k = k }) where
   -- rows 1 to 5
-  pub refuses-record : (n ≡ 0 → ⊥) → (r : RunEnd) → asRunAnswer r ≡ refusal n → Gives r buf (runReducer buf used budget)
+  pub refuses-record : (n ≡ 0 → ⊥) → (r : Reduced) → (asRunAnswer (r .end) ≡ refusal n) × (r .replaced ≡ 0) → Gives r buf (runReducer buf used budget)
   refuses-record h = refuses buf used budget n (term-refuses buf used n k checked h (badBuffer buf used) refl (row 7 (openTerm buf used) ∷ [])) h
 
   -- the header as code reads it, and the term that they let through
@@ -55,7 +55,7 @@ module _ (buf : List ℕ) (used budget n k : ℕ) (checked : checkTerm buf used 
     is-closed : b ≡ closed t
     is-closed = test t (takes z bytes hd is .1 .1)
 
-    pub refuses-open : not b ≡ true → (r : RunEnd) → asRunAnswer r ≡ refusal 7 → Gives r buf (runReducer buf used budget)
+    pub refuses-open : not b ≡ true → (r : Reduced) → (asRunAnswer (r .end) ≡ refusal 7) × (r .replaced ≡ 0) → Gives r buf (runReducer buf used budget)
     refuses-open e =
         let a = takes z bytes hd is in
         let seven = first-applies 7 (openTerm buf used) [] (term-open (a .1 .1) (a .0) ∙ ap not (sym is-closed) ∙ e) in
@@ -65,6 +65,6 @@ module _ (buf : List ℕ) (used budget n k : ℕ) (checked : checkTerm buf used 
     pub accepts : not b ≡ false → (u : Term) × Accepted hd u buf used
     accepts e = (t, record { holds = closed-term (takes z bytes hd is .1 .1) (sym is-closed ∙ not-false b e); short = takes z bytes hd is .0 })
 
-pub accepted-gives : {hd : Header} {t : Term} {buf : List ℕ} {used : ℕ} → Accepted hd t buf used → (budget : ℕ) (r : RunEnd) (buf₁ : List ℕ)
+pub accepted-gives : {hd : Header} {t : Term} {buf : List ℕ} {used : ℕ} → Accepted hd t buf used → (budget : ℕ) (r : Reduced) (buf₁ : List ℕ)
     → Gives r buf₁ (acceptedRun hd t (length buf) budget) → Gives r buf₁ (runReducer buf used budget)
 accepted-gives h budget r buf₁ = subst (Gives r buf₁) (sym (reducer-is (h .holds) (h .short) budget))

@@ -1,8 +1,9 @@
 -- Laws of the reducer's run: its number, a refusal, what its rows let through, and what an accepted run leaves.
-use Prim.Native.Nat.{suc, zero, ℕ, _≤_}
+use Prim.Native.Nat.{_<_, suc, zero, ℕ, _≤_}
 use mathlib.Core.Path.{ap, refl, subst, sym, _∙_, _≡_}
 use mathlib.Core.Logic.{Iff·trans}
 use mathlib.Core.List.{List, [], _∷_}
+use mathlib.Core.Option.{some}
 use lib.ListN.{length}
 use native.Mathlib.Omega.{arith}
 use Rattle.record.specs.declared.Header.{Header}
@@ -11,7 +12,8 @@ use Rattle.record.specs.Holding.{TermIn}
 use Rattle.record.specs.Rows.{badBuffer, firstRow, openTerm, row}
 use Rattle.rules.specs.FreeVariables.{Vars, noVars}
 use Rattle.rules.specs.Reduction.{reduce}
-use Rattle.rules.specs.Run.{Ran}
+use Rattle.rules.specs.Replaced.{replacedNext}
+use Rattle.rules.specs.Run.{Ran, iterate}
 use Rattle.rules.specs.Sound.{SoundTerm}
 use Rattle.rules.specs.Syntax.{Term}
 use Rattle.run.specs.RunAnswer.{refusal, roomFor}
@@ -19,10 +21,12 @@ use Rattle.record.proofs.PaddedLaws.{length-padded}
 use Rattle.record.proofs.HoldingLaws.{padded-term, term-header, term-is, term-open, term-passed, term-passes, term-size}
 use Rattle.record.proofs.RowLaws.{first-none, none-first, not-intro}
 use Rattle.rules.proofs.FinishedLaws.{reduce-finished}
+use Rattle.rules.proofs.ReplacedLaws.{reductions-replacing, replacing-most}
 use Rattle.rules.proofs.RunLaws.{run-reached}
 use Rattle.rules.proofs.SoundTermLaws.{sound-closed, sound-reductions}
-use Rattle.record.proofs.HeaderLaws.{ok-limit}
-use Rattle.run.proofs.RanLaws.{run-answers, run-stays}
+use Rattle.record.proofs.HeaderLaws.{length-encodeTerm, ok-limit}
+use Rattle.record.proofs.SizeLaws.{replacedNext-most}
+use Rattle.run.proofs.RanLaws.{run-answers, run-stays, run-way}
 use Rattle.reducer.specs.ReducerRan.{ReducerRan}
 use Rattle.reducer.specs.RunReducer.{reducedTo, reducerBy, reducerRows, reductions, runReducer}
 
@@ -37,13 +41,13 @@ pub reducer-number : (buf : List ℕ) (used budget : ℕ) → (runReducer buf us
 unfolding runReducer
 reducer-number buf used budget = reducer-by (firstRow (reducerRows buf used)) buf used budget
 
-refused-by : (m : ℕ) (buf : List ℕ) (used budget : ℕ) → (m ≡ 0 → ⊥) → reducerBy m buf used budget ≡ record { answer = refusal m; buf = buf }
+refused-by : (m : ℕ) (buf : List ℕ) (used budget : ℕ) → (m ≡ 0 → ⊥) → reducerBy m buf used budget ≡ record { answer = refusal m; replaced = 0; buf = buf }
 unfolding reducerBy
 refused-by zero buf used budget h = absurd (h refl)
 refused-by (suc m) buf used budget h = refl
 
 pub reducer-refused : (buf : List ℕ) (used budget : ℕ) → (firstRow (reducerRows buf used) ≡ 0 → ⊥)
-    → runReducer buf used budget ≡ record { answer = refusal (firstRow (reducerRows buf used)); buf = buf }
+    → runReducer buf used budget ≡ record { answer = refusal (firstRow (reducerRows buf used)); replaced = 0; buf = buf }
 unfolding runReducer
 reducer-refused buf used budget h = refused-by (firstRow (reducerRows buf used)) buf used budget h
 
@@ -70,7 +74,7 @@ module _ {hd : Header} {t : Term} {buf : List ℕ} {used : ℕ} (h : TermIn noVa
   abbrev ran : Ran Term
   ran = reductions hd (length buf) budget t
 
-  pub reducer-is : runReducer buf used budget ≡ reducedTo hd (length buf) budget ran
+  pub reducer-is : runReducer buf used budget ≡ reducedTo hd (length buf) budget t ran
   unfolding runReducer reducerBy
   reducer-is = ap (λ (m : ℕ). reducerBy m buf used budget) (reducer-passes h l) ∙ rw (term-is h l, term-header h) refl
 
@@ -82,13 +86,22 @@ module _ {hd : Header} {t : Term} {buf : List ℕ} {used : ℕ} (h : TermIn noVa
   roomy : length (encodeTerm hd (ran .state)) ≤ length buf
   roomy = run-stays (reduce (okOf hd)) (encodeTerm hd) (length buf) t budget (omega (arith, term-size h, h .within))
 
-  reduced : ReducerRan hd t (length buf) budget (reducedTo hd (length buf) budget ran)
+  -- a term on the way fits the buffer, and its reduction replaces at most a variable for every 8 bytes
+  few : (i : ℕ) (u : Term) → i < ran .count → iterate (reduce (okOf hd)) i t ≡ some u → replacedNext u ≤ 2048
+  few i u b e =
+      let fits = run-way (reduce (okOf hd)) (encodeTerm hd) (length buf) t budget (omega (arith, term-size h, h .within)) i u (omega arith) e in
+      omega (arith, replacedNext-most u, length-encodeTerm hd u, l)
+
+  reduced : ReducerRan hd t (length buf) budget (reducedTo hd (length buf) budget t ran)
   unfolding reducedTo
   reduced =
       let answers = run-answers (reduce (okOf hd)) (encodeTerm hd) (length buf) t budget in
+      let counted = reductions-replacing (okOf hd) (ok-limit hd) (hd .k) (ran .count) t (ran .state) (h .sound) (answers .stepped) in
       record {
         t = ran .state;
         ran = answers;
+        replaces = counted;
+        most = replacing-most (okOf hd) 2048 counted few;
         bytes = refl;
         finishes = Iff·trans (answers .finishes) (reduce-finished (okOf hd) (ran .state));
         again = padded-term noVars hd (ran .state) (length buf) (h .header) sound-left;

@@ -1,3 +1,4 @@
 pub mod RunReducer
 pub mod ReducerRan
 pub mod Running
+pub mod Represents

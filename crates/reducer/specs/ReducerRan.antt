@@ -1,5 +1,5 @@
 -- WHAT AN ACCEPTED RUN OF THE REDUCER ANSWERS AND LEAVES (demand 2).
-use Prim.Native.Nat.{ℕ}
+use Prim.Native.Nat.{_*_, ℕ, _≤_}
 use mathlib.Core.Path.{_≡_}
 use mathlib.Core.Logic.{_↔_}
 use mathlib.Core.List.{List}
@@ -10,6 +10,7 @@ use Rattle.record.specs.Header.{encodeTerm, okOf}
 use Rattle.record.specs.Holding.{TermIn}
 use Rattle.rules.specs.FreeVariables.{noVars}
 use Rattle.rules.specs.Reduction.{reduce}
+use Rattle.rules.specs.Replaced.{ReductionsReplacing}
 use Rattle.rules.specs.Run.{isFinished}
 use Rattle.rules.specs.Syntax.{Atom, Term, tuple}
 use Rattle.run.specs.RanFrom.{RanFrom}
@@ -20,6 +21,10 @@ pub record ReducerRan (h : Header) (t₀ : Term) (room budget : ℕ) (r : Reduce
   -- the term left
   pub t : Term
   pub ran : RanFrom (reduce (okOf h)) (encodeTerm h) t₀ room budget (r .answer) t
+  -- the variables replaced are those counted from the rules, over the reductions made
+  pub replaces : ReductionsReplacing (okOf h) t₀ (r .answer .steps) (r .replaced) t
+  -- at most 2,048 for each of them, so below 2^43 where a budget has 32 bits
+  pub most : r .replaced ≤ r .answer .steps * 2048
   -- it stands in the buffer with zeros behind it
   pub bytes : r .buf ≡ padded room (encodeTerm h t)
   -- finished: a tuple

@@ -14,6 +14,7 @@ use Rattle.record.specs.Header.{contentsAt, encodeTerm, okOf}
 use Rattle.record.specs.Term.{encodeTermRecord, simpleSize, termSize}
 use Rattle.rules.specs.FreeVariables.{adding, allVars, closed, closedIn, noVars}
 use Rattle.rules.specs.Reduction.{reduce, valueOf}
+use Rattle.rules.specs.Replaced.{replacedNext}
 use Rattle.rules.specs.Sound.{SoundTerm}
 use Rattle.rules.specs.Substitution.{Substitution, fromStore, only, substitute}
 use Rattle.rules.specs.Syntax.{Atom, Simple, Term, letAll, letOne, next, num, plain, rec, tuple}
@@ -35,7 +36,7 @@ use Rattle.place.proofs.EditLaws.{length-lead, length-leafBytes, length-removed
 use Rattle.place.proofs.HeadsLaws.{length-recordHead}
 use Rattle.place.proofs.TermBytesLaws.{size-plain, termSize-letAll, termSize-letOne, termSize-plain, termSize-rec, termSize-tuple}
 use Rattle.place.proofs.TermEditLaws.{letAll-gone, letOne-gone, letOne-set, rec-stopped, rec-unrolled}
-use Rattle.place.proofs.TermPathLaws.{termSize-plug}
+use Rattle.place.proofs.TermPathLaws.{replaced-redex, termSize-plug}
 use Rattle.place.proofs.TermPutLaws.{put-letAll-last, put-letOne-last}
 use Rattle.place.proofs.TermViewLaws.{letAll-view, letOne-view, term-index, term-read, term-same}
 use Rattle.place.proofs.UnrolledLaws.{unrolled-behind}
@@ -87,31 +88,32 @@ module _ {hd : Header} {t : Term} {l : List ℕ} {used : ℕ} (h : Stands hd t l
     sound₀ : SoundTerm (okOf hd) (hd .k) noVars t₀
     sound₀ = subst (λ (u : Term). SoundTerm (okOf hd) (hd .k) noVars u) is (redex-sound h)
 
-    -- any edit m of the bytes that leaves the term u there, and zeros behind the record
-    made : (u : Term) (m : List ℕ) (up down size : ℕ) → Redex t₀ → reduce (okOf hd) t₀ ≡ next u → termSize u + down ≡ termSize t₀ + up → used + up - down ≡ size
+    -- any edit m of the bytes that leaves the term u there, and zeros behind the record, where n is what the redex replaces
+    made : (u : Term) (m : List ℕ) (up down size n : ℕ) → Redex t₀ → reduce (okOf hd) t₀ ≡ next u → replacedNext t₀ ≡ n → termSize u + down ≡ termSize t₀ + up → used + up - down ≡ size
         → size ≤ length l → take size m ≡ front ++ (encodeTermRecord u ++ rests terms (termPath t)) → drop size m ≡ zeros (length l - size)
-        → Performed hd t (length l) (relengthAll (shifted up down) (contentsAt hd) (length (termPath t)) m) (used + up - down)
+        → Performed hd t (length l) (relengthAll (shifted up down) (contentsAt hd) (length (termPath t)) m) (used + up - down) n
     unfolding front
-    made u m up down size r st sizes new fits bytes tail =
+    made u m up down size n r st counts sizes new fits bytes tail =
         let d : Term = plug terms (termPath t) u in
         let goes : reduce (okOf hd) t ≡ next d = redex-reduces (okOf hd) t t₀ u is r st in
         let short : used < 65536 = omega (arith, h .short, h .holds .within) in
         let ld : length (encodeTerm hd d) ≡ contentsAt hd + (4 + termSize d) = length-encodeTerm hd d in
         let zd : termSize d ≡ termSize u + around terms (termPath t) = termSize-plug (termPath t) u in
         let u₀ : contentsAt hd + (4 + termSize t₀ + around terms (termPath t)) ≡ used = used₀ in
-        let n : length (encodeTerm hd d) ≡ size = omega arith in
+        let long : length (encodeTerm hd d) ≡ size = omega arith in
         let pad : padded (length l) (encodeTerm hd d) ≡ encodeTerm hd d ++ zeros (length l - size) =
-        padded-zeros (length l) (length l - size) (encodeTerm hd d) (ap (λ (y : ℕ). length l - y) n) in
+        padded-zeros (length l) (length l - size) (encodeTerm hd d) (ap (λ (y : ℕ). length l - y) long) in
         let eq : relengthAll (shifted up down) (contentsAt hd) (length (termPath t)) m ≡ padded (length l) (encodeTerm hd d) =
         encodeTerm-relength hd up down (4 + termSize t₀) size (termPath t) u m bytes (omega arith) (omega arith)
         ∙ ap (λ (y : List ℕ). encodeTerm hd d ++ y) tail ∙ sym pad in
         let stands = stands-after d h goes (omega arith) in
-        let to : length (encodeTerm hd d) ≡ used + up - down = n ∙ sym new in
+        let to : length (encodeTerm hd d) ≡ used + up - down = long ∙ sym new in
         record {
           after = d;
           reduces = goes;
           bytes = eq;
           size = sym to;
+          replaces = sym (replaced-redex t ∙ ap replacedNext is ∙ counts);
           stands = subst (λ (y : List ℕ). Stands hd d y (used + up - down)) (sym eq) (subst (λ (y : ℕ). Stands hd d (padded (length l) (encodeTerm hd d)) y) to stands);
         }
 
@@ -137,13 +139,13 @@ module _ {hd : Header} {t : Term} {l : List ℕ} {used : ℕ} (h : Stands hd t l
 
   -- EACH RULE
 
-  abbrev Made : ℕ → ℕ → List ℕ → Type 0
-  Made up down m = Performed hd t (length l) (relengthAll (shifted up down) (contentsAt hd) (length (termPath t)) m) (used + up - down)
+  abbrev Made : ℕ → ℕ → List ℕ → ℕ → Type 0
+  Made up down m n = Performed hd t (length l) (relengthAll (shifted up down) (contentsAt hd) (length (termPath t)) m) (used + up - down) n
 
   letOne-made : (x v : ℕ) (a : Atom) (u : Term) → redex t ≡ letOne x (plain a) u → reduce (okOf hd) (letOne x (plain a) u) ≡ next (substitute (only x v) u)
-      → Made 0 16 (filledAt l place 16 (substitute (only x v) u) used)
+      → (n : ℕ) → replacedNext (letOne x (plain a) u) ≡ n → Made 0 16 (filledAt l place 16 (substitute (only x v) u) used) n
   unfolding filledAt over
-  letOne-made x v a u is st =
+  letOne-made x v a u is st n counts =
       let u₁ : Term = substitute (only x v) u in
       let t₀ : Term = letOne x (plain a) u in
       let t₁ : Term = letOne x (plain a) u₁ in
@@ -156,16 +158,16 @@ module _ {hd : Header} {t : Term} {l : List ℕ} {used : ℕ} (h : Stands hd t l
       let e : put l (place + 16) (encodeTermRecord u₁) ≡ m = put-letOne-last x (plain a) u u₁ (place + 16) (at₀ t₀ is .here) (ap (λ (n : ℕ). place + (8 + n)) (sym (size-plain a))) zu in
       let order : place + 16 ≤ used = omega (arith, room₀ t₀ is) in
       let fits : used ≤ length m = omega (arith, fits-buf) in
-      subst (λ (y : List ℕ). Made 0 16 (removed y place 16 used)) (sym e)
-      (made t₀ is u₁ (removed m place 16 used) 0 16 (used - 16) redexLetOne st (omega arith) (omega arith) (omega (arith, fits-buf))
+      subst (λ (y : List ℕ). Made 0 16 (removed y place 16 used) n) (sym e)
+      (made t₀ is u₁ (removed m place 16 used) 0 16 (used - 16) n redexLetOne st counts (omega arith) (omega arith) (omega (arith, fits-buf))
       (letOne-gone m (removed m place 16 used) (front t₀ is) (rests terms (termPath t)) place used fits (front₀ t₀ is) x a u₁ (over-take t₀ is t₁ same) (removed-cut m place 16 used order fits))
       (tail-removed m place 16 lm (over-behind t₀ is t₁ same) order))
 
   letAll-made : (f : Substitution) (ys : List Atom) (u : Term) → redex t ≡ letAll (tuple ys) u → reduce (okOf hd) (letAll (tuple ys) u) ≡ next (substitute f u)
-      → Made 0 (8 + 8 * length ys) (filledAt l place (8 + 8 * length ys) (substitute f u) used)
+      → (n : ℕ) → replacedNext (letAll (tuple ys) u) ≡ n → Made 0 (8 + 8 * length ys) (filledAt l place (8 + 8 * length ys) (substitute f u) used) n
   unfolding filledAt over
-  letAll-made f ys u is st =
-      let n : ℕ = 8 + 8 * length ys in
+  letAll-made f ys u is st n counts =
+      let gone : ℕ = 8 + 8 * length ys in
       let u₁ : Term = substitute f u in
       let t₀ : Term = letAll (tuple ys) u in
       let t₁ : Term = letAll (tuple ys) u₁ in
@@ -176,18 +178,18 @@ module _ {hd : Header} {t : Term} {l : List ℕ} {used : ℕ} (h : Stands hd t l
       let same : termSize t₀ ≡ termSize t₁ = omega arith in
       let m : List ℕ = over t₀ is t₁ same in
       let lm : length m ≡ length l = over-length t₀ is t₁ same in
-      let e : put l (place + n) (encodeTermRecord u₁) ≡ m = put-letAll-last (tuple ys) u u₁ (place + n) (at₀ t₀ is .here) (omega arith) zu in
-      let order : place + n ≤ used = omega (arith, room₀ t₀ is) in
+      let e : put l (place + gone) (encodeTermRecord u₁) ≡ m = put-letAll-last (tuple ys) u u₁ (place + gone) (at₀ t₀ is .here) (omega arith) zu in
+      let order : place + gone ≤ used = omega (arith, room₀ t₀ is) in
       let fits : used ≤ length m = omega (arith, fits-buf) in
-      subst (λ (y : List ℕ). Made 0 n (removed y place n used)) (sym e)
-      (made t₀ is u₁ (removed m place n used) 0 n (used - n) redexLetAll st (omega arith) (omega arith) (omega (arith, fits-buf))
-      (letAll-gone m (removed m place n used) (front t₀ is) (rests terms (termPath t)) place used fits (front₀ t₀ is) ys u₁ n refl (over-take t₀ is t₁ same) (removed-cut m place n used order fits))
-      (tail-removed m place n lm (over-behind t₀ is t₁ same) order))
+      subst (λ (y : List ℕ). Made 0 gone (removed y place gone used) n) (sym e)
+      (made t₀ is u₁ (removed m place gone used) 0 gone (used - gone) n redexLetAll st counts (omega arith) (omega arith) (omega (arith, fits-buf))
+      (letAll-gone m (removed m place gone used) (front t₀ is) (rests terms (termPath t)) place used fits (front₀ t₀ is) ys u₁ gone refl (over-take t₀ is t₁ same) (removed-cut m place gone used order fits))
+      (tail-removed m place gone lm (over-behind t₀ is t₁ same) order))
 
   numeral-made : (x v : ℕ) (s : Simple) (u : Term) → redex t ≡ letOne x s u → simpleSize s ≡ 12 → reduce (okOf hd) (letOne x s u) ≡ next (letOne x (plain (num v)) u)
-      → Made 0 4 (numeralAt l place used v)
+      → (n : ℕ) → replacedNext (letOne x s u) ≡ n → Made 0 4 (numeralAt l place used v) n
   unfolding numeralAt
-  numeral-made x v s u is zs st =
+  numeral-made x v s u is zs st n counts =
       let t₀ : Term = letOne x s u in
       let t₁ : Term = letOne x (plain (num v)) u in
       let z₀ : termSize t₀ ≡ 8 + simpleSize s + termSize u = termSize-letOne x s u in
@@ -203,16 +205,16 @@ module _ {hd : Header} {t : Term} {l : List ℕ} {used : ℕ} (h : Stands hd t l
       let m₁ : List ℕ = put m place w in
       let lm₁ : length m₁ ≡ length m = length-put m w place (omega (arith, fits-buf)) in
       let m₂ : List ℕ = put m₁ (place + 8) (leafBytes 32 v) in
-      subst (λ (y : ℕ). Made 0 4 (put (put m place (le 2 y)) (place + 8) (leafBytes 32 v))) less
-      (made t₀ is t₁ m₂ 0 4 (used - 4) redexLetOne st (omega arith) (omega arith) (omega (arith, fits-buf))
+      subst (λ (y : ℕ). Made 0 4 (put (put m place (le 2 y)) (place + 8) (leafBytes 32 v)) n) less
+      (made t₀ is t₁ m₂ 0 4 (used - 4) n redexLetOne st counts (omega arith) (omega arith) (omega (arith, fits-buf))
       (letOne-set l m (front t₀ is) (rests terms (termPath t)) place used fits-buf (front₀ t₀ is) x v s u zs (bytes₀ t₀ is) (removed-cut l (place + 8) 4 used order fits-buf))
       (drop-put m₁ (leafBytes 32 v) (place + 8) (used - 4) (omega (arith, length-leafBytes 32 v)) (omega (arith, fits-buf)) ∙ drop-put m w place (used - 4) (omega arith) (omega (arith, fits-buf))
       ∙ tail-removed l (place + 8) 4 refl refl order))
 
   stop-made : (x : ℕ) (a : Atom) (ys : List Atom) (u : Term) → redex t ≡ rec x a ys u → reduce (okOf hd) (rec x a ys u) ≡ next (tuple ys)
-      → Made 0 (20 + termSize u) (stoppedAt l place (hd .k) (20 + termSize u) used)
+      → (c : ℕ) → replacedNext (rec x a ys u) ≡ c → Made 0 (20 + termSize u) (stoppedAt l place (hd .k) (20 + termSize u) used) c
   unfolding stoppedAt
-  stop-made x a ys u is st =
+  stop-made x a ys u is st c counts =
       let d : ℕ = 20 + termSize u in
       let n : ℕ = 4 + 8 * hd .k in
       let t₀ : Term = rec x a ys u in
@@ -225,15 +227,15 @@ module _ {hd : Header} {t : Term} {l : List ℕ} {used : ℕ} (h : Stands hd t l
       let m : List ℕ = put l place w in
       let lm : length m ≡ length l = length-put l w place (omega (arith, fits-buf)) in
       let fits : used ≤ length m = omega (arith, fits-buf) in
-      made t₀ is (tuple ys) (removed m (place + n) d used) 0 d (used - d) redexRec st (omega arith) (omega arith) (omega (arith, fits-buf))
+      made t₀ is (tuple ys) (removed m (place + n) d used) 0 d (used - d) c redexRec st counts (omega arith) (omega arith) (omega (arith, fits-buf))
       (rec-stopped l m (removed m (place + n) d used) (front t₀ is) (rests terms (termPath t)) place used x a ys u (hd .k) d hk refl (bytes₀ t₀ is) fits-buf (front₀ t₀ is) refl
       (removed-cut m (place + n) d used order fits))
       (tail-removed m (place + n) d lm (drop-put l w place used (omega arith) (omega (arith, fits-buf))) order)
 
   unroll-made : (x q : ℕ) (a : Atom) (ys : List Atom) (u : Term) → redex t ≡ rec x a ys u → reduce (okOf hd) (rec x a ys u) ≡ next (letAll (rec x (num q) ys u) (letOne x (plain (num (suc q))) u))
-      → used + (24 + termSize u) ≤ length l → Made (24 + termSize u) 0 (unrolledAt l place (hd .k) (24 + termSize u) used x (suc q))
+      → used + (24 + termSize u) ≤ length l → (c : ℕ) → replacedNext (rec x a ys u) ≡ c → Made (24 + termSize u) 0 (unrolledAt l place (hd .k) (24 + termSize u) used x (suc q)) c
   unfolding unrolledAt
-  unroll-made x q a ys u is st fits =
+  unroll-made x q a ys u is st fits c counts =
       let up : ℕ = 24 + termSize u in
       let n : ℕ = up + 8 * hd .k in
       let t₀ : Term = rec x a ys u in
@@ -247,7 +249,7 @@ module _ {hd : Header} {t : Term} {l : List ℕ} {used : ℕ} (h : Stands hd t l
       let order : place + n ≤ used = omega (arith, room₀ t₀ is) in
       let less : suc q - 1 ≡ q = omega arith in
       let m : List ℕ = unrolled l place n (20 + 8 * hd .k) used (recordHead 38 (n + up)) (leafBytes 32 (suc q - 1)) (lead 37 (up - 4) x 32 (suc q)) in
-      made t₀ is t₁ m up 0 (used + up) redexRec st (omega arith) (omega arith) fits
+      made t₀ is t₁ m up 0 (used + up) c redexRec st counts (omega arith) (omega arith) fits
       (rw less (rec-unrolled l (front t₀ is) (rests terms (termPath t)) place up used x q (hd .k) a ys u (bytes₀ t₀ is) (front₀ t₀ is) hk refl fits))
       (unrolled-behind l _ _ _ place n (20 + 8 * hd .k) used (used + up) (length-recordHead 38 (n + up)) (length-leafBytes 32 (suc q - 1)) (length-lead 37 (up - 4) x 32 (suc q)) (omega arith) order
       (omega arith) fits
@@ -282,46 +284,52 @@ module _ {hd : Header} {t : Term} {l : List ℕ} {used : ℕ} (h : Stands hd t l
   -- ANY PLAN
 
   performs-by : (t₀ : Term) (q : Plan) → Planned (okOf hd) (length (termPath t)) place t₀ q → redex t ≡ t₀ → Moves (q .rule) → used + q .up ≤ length l + q .down
-      → (m : List ℕ) → Edited (hd .k) q (q .rule) used l m → Performed hd t (length l) (relengthAll (shifted (q .up) (q .down)) (contentsAt hd) (q .levels) m) (used + q .up - q .down)
-  performs-by _ _ plannedFinished is moves fits m e = absurd moves
-  performs-by _ _ plannedOver is moves fits m e = absurd moves
-  performs-by _ _ (plannedBind {x} {v} {a} {u} st) is moves fits m e = subst (Made 0 16) (sym (e u (letOne-last x a u is))) (letOne-made x v a u is st)
-  performs-by _ _ (plannedEvaluate {x} {v} {s} {u} z st) is moves fits m e = subst (Made 0 4) (sym e) (numeral-made x v s u is z st)
-  performs-by _ _ (plannedLeave {ys} {u} st) is moves fits m e =
-      subst (Made 0 (8 + 8 * length ys)) (sym (e (map valueOf ys) u (letAll-first ys u is) (letAll-last ys u is))) (letAll-made (fromStore (map valueOf ys)) ys u is st)
-  performs-by _ _ (plannedStop {x} {a} {ys} {u} st) is moves fits m e = subst (Made 0 (20 + termSize u)) (sym e) (stop-made x a ys u is st)
-  performs-by _ _ (plannedUnroll {x} {q} {a} {ys} {u} st) is moves fits m e = subst (Made (24 + termSize u) 0) (sym e) (unroll-made x q a ys u is st (omega arith))
+      → (m : List ℕ) (n : ℕ) → Edited (hd .k) q (q .rule) used l m n → Performed hd t (length l) (relengthAll (shifted (q .up) (q .down)) (contentsAt hd) (q .levels) m) (used + q .up - q .down) n
+  performs-by _ _ plannedFinished is moves fits m n e = absurd moves
+  performs-by _ _ plannedOver is moves fits m n e = absurd moves
+  performs-by _ _ (plannedBind {x} {v} {a} {u} st counts) is moves fits m n e =
+      let done = e u (letOne-last x a u is) in
+      subst (λ (y : List ℕ). Made 0 16 y n) (sym (done .0)) (letOne-made x v a u is st n (counts ∙ sym (done .1)))
+  performs-by _ _ (plannedEvaluate {x} {v} {s} {u} z st counts) is moves fits m n e =
+      subst (λ (y : List ℕ). Made 0 4 y n) (sym (e .0)) (numeral-made x v s u is z st n (counts ∙ sym (e .1)))
+  performs-by _ _ (plannedLeave {ys} {u} st counts) is moves fits m n e =
+      let done = e (map valueOf ys) u (letAll-first ys u is) (letAll-last ys u is) in
+      subst (λ (y : List ℕ). Made 0 (8 + 8 * length ys) y n) (sym (done .0)) (letAll-made (fromStore (map valueOf ys)) ys u is st n (counts ∙ sym (done .1)))
+  performs-by _ _ (plannedStop {x} {a} {ys} {u} st counts) is moves fits m n e =
+      subst (λ (y : List ℕ). Made 0 (20 + termSize u) y n) (sym (e .0)) (stop-made x a ys u is st n (counts ∙ sym (e .1)))
+  performs-by _ _ (plannedUnroll {x} {q} {a} {ys} {u} st counts) is moves fits m n e =
+      subst (λ (y : List ℕ). Made (24 + termSize u) 0 y n) (sym (e .0)) (unroll-made x q a ys u is st (omega arith) n (counts ∙ sym (e .1)))
 
   planned : Planned (okOf hd) (length (termPath t)) place (redex t) (planOf (contentsAt hd) (okOf hd) t)
   unfolding planOf
   planned = planned-redex (okOf hd) (length (termPath t)) place (redex t)
 
   -- the edit and the lengths of the plan are the reduction
-  pub performs : (k contents : ℕ) → hd .k ≡ k → contentsAt hd ≡ contents → (q : Plan) → q ≡ planOf (contentsAt hd) (okOf hd) t → Moves (q .rule) → used + q .up ≤ length l + q .down → (m₁ m₂ : List ℕ) → Edited k q (q .rule) used l m₁
-      → m₂ ≡ relengthAll (shifted (q .up) (q .down)) contents (q .levels) m₁ → Performed hd t (length l) m₂ (used + q .up - q .down)
-  performs k contents is-k at-contents q e moves fits m₁ m₂ e₁ e₂ =
+  pub performs : (k contents : ℕ) → hd .k ≡ k → contentsAt hd ≡ contents → (q : Plan) → q ≡ planOf (contentsAt hd) (okOf hd) t → Moves (q .rule) → used + q .up ≤ length l + q .down → (m₁ m₂ : List ℕ) (c : ℕ) → Edited k q (q .rule) used l m₁ c
+      → m₂ ≡ relengthAll (shifted (q .up) (q .down)) contents (q .levels) m₁ → Performed hd t (length l) m₂ (used + q .up - q .down) c
+  performs k contents is-k at-contents q e moves fits m₁ m₂ c e₁ e₂ =
       let f : ℕ → List ℕ = λ n. relengthAll (shifted (q .up) (q .down)) n (q .levels) m₁ in
-      subst (λ (y : List ℕ). Performed hd t (length l) y (used + q .up - q .down)) (sym (e₂ ∙ ap f (sym at-contents)))
-      (performs-by (redex t) q (subst (λ (y : Plan). Planned (okOf hd) (length (termPath t)) place (redex t) y) (sym e) planned) refl moves fits m₁ (subst (λ (n : ℕ). Edited n q (q .rule) used l m₁) (sym is-k) e₁))
+      subst (λ (y : List ℕ). Performed hd t (length l) y (used + q .up - q .down) c) (sym (e₂ ∙ ap f (sym at-contents)))
+      (performs-by (redex t) q (subst (λ (y : Plan). Planned (okOf hd) (length (termPath t)) place (redex t) y) (sym e) planned) refl moves fits m₁ c (subst (λ (n : ℕ). Edited n q (q .rule) used l m₁ c) (sym is-k) e₁))
 
   -- WHAT THE CODE ASKS
 
   asks-by : (t₀ : Term) (q : Plan) → Planned (okOf hd) (length (termPath t)) place t₀ q → redex t ≡ t₀ → used + q .up ≤ length l + q .down → PlanFits (contentsAt hd) (hd .k) q l used
   asks-by _ _ plannedFinished is fits = record { edit = tt; levels = omega (arith, redex-room h, fits-buf); up = omega arith; down = omega arith }
   asks-by _ _ plannedOver is fits = record { edit = tt; levels = omega (arith, redex-room h, fits-buf); up = omega arith; down = omega arith }
-  asks-by _ _ (plannedBind {x} {v} {a} {u} st) is fits =
+  asks-by _ _ (plannedBind {x} {v} {a} {u} st counts) is fits =
       let t₀ : Term = letOne x (plain a) u in
       let z : termSize t₀ ≡ 16 + termSize u = termSize-plain x a u in
       let room : place + (4 + termSize t₀) ≤ used = room₀ t₀ is in
       let low : x < 17 = omega (arith, sound₀ t₀ is .0 .1, h .holds .header .k-high) in
       record { edit = ((u, letOne-last x a u is), low, omega arith); levels = omega (arith, fits-buf); up = omega arith; down = omega arith }
-  asks-by _ _ (plannedEvaluate {x} {v} {s} {u} e st) is fits =
+  asks-by _ _ (plannedEvaluate {x} {v} {s} {u} e st counts) is fits =
       let t₀ : Term = letOne x s u in
       let z : termSize t₀ ≡ 8 + simpleSize s + termSize u = termSize-letOne x s u in
       let room : place + (4 + termSize t₀) ≤ used = room₀ t₀ is in
       let read : val (part l place 2) ≡ 4 + termSize t₀ = term-read (at₀ t₀ is) (place + 2) refl .0 in
       record { edit = (omega arith, omega arith); levels = omega (arith, fits-buf); up = omega arith; down = omega arith }
-  asks-by _ _ (plannedLeave {ys} {u} st) is fits =
+  asks-by _ _ (plannedLeave {ys} {u} st counts) is fits =
       let t₀ : Term = letAll (tuple ys) u in
       let z : termSize t₀ ≡ 8 + termSize (tuple ys) + termSize u = termSize-letAll (tuple ys) u in
       let y : termSize (tuple ys) ≡ 8 * length ys = termSize-tuple ys in
@@ -332,13 +340,13 @@ module _ {hd : Header} {t : Term} {l : List ℕ} {used : ℕ} (h : Stands hd t l
         up = omega arith;
         down = omega arith;
       }
-  asks-by _ _ (plannedStop {x} {a} {ys} {u} st) is fits =
+  asks-by _ _ (plannedStop {x} {a} {ys} {u} st counts) is fits =
       let t₀ : Term = rec x a ys u in
       let z : termSize t₀ ≡ 20 + 8 * length ys + termSize u = termSize-rec x a ys u in
       let hk : length ys ≡ hd .k = sound₀ t₀ is .2 in
       let room : place + (4 + termSize t₀) ≤ used = room₀ t₀ is in
       record { edit = (omega arith, omega arith); levels = omega (arith, fits-buf); up = omega arith; down = omega arith }
-  asks-by _ _ (plannedUnroll {x} {q} {a} {ys} {u} st) is fits =
+  asks-by _ _ (plannedUnroll {x} {q} {a} {ys} {u} st counts) is fits =
       let t₀ : Term = rec x a ys u in
       let z : termSize t₀ ≡ 20 + 8 * length ys + termSize u = termSize-rec x a ys u in
       let hk : length ys ≡ hd .k = sound₀ t₀ is .2 in
@@ -354,23 +362,23 @@ module _ {hd : Header} {t : Term} {l : List ℕ} {used : ℕ} (h : Stands hd t l
   sums-by : (t₀ : Term) (q : Plan) → Planned (okOf hd) (length (termPath t)) place t₀ q → redex t ≡ t₀ → (q .up ≤ used) × (q .down ≤ used)
   sums-by _ _ plannedFinished is = (omega arith, omega arith)
   sums-by _ _ plannedOver is = (omega arith, omega arith)
-  sums-by _ _ (plannedBind {x} {v} {a} {u} st) is =
+  sums-by _ _ (plannedBind {x} {v} {a} {u} st counts) is =
       let z : termSize (letOne x (plain a) u) ≡ 16 + termSize u = termSize-plain x a u in
       let room : place + (4 + termSize (letOne x (plain a) u)) ≤ used = room₀ (letOne x (plain a) u) is in
       (omega arith, omega arith)
-  sums-by _ _ (plannedEvaluate {x} {v} {s} {u} e st) is =
+  sums-by _ _ (plannedEvaluate {x} {v} {s} {u} e st counts) is =
       let room : place + (4 + termSize (letOne x s u)) ≤ used = room₀ (letOne x s u) is in
       (omega arith, omega arith)
-  sums-by _ _ (plannedLeave {ys} {u} st) is =
+  sums-by _ _ (plannedLeave {ys} {u} st counts) is =
       let z : termSize (letAll (tuple ys) u) ≡ 8 + termSize (tuple ys) + termSize u = termSize-letAll (tuple ys) u in
       let y : termSize (tuple ys) ≡ 8 * length ys = termSize-tuple ys in
       let room : place + (4 + termSize (letAll (tuple ys) u)) ≤ used = room₀ (letAll (tuple ys) u) is in
       (omega arith, omega arith)
-  sums-by _ _ (plannedStop {x} {a} {ys} {u} st) is =
+  sums-by _ _ (plannedStop {x} {a} {ys} {u} st counts) is =
       let z : termSize (rec x a ys u) ≡ 20 + 8 * length ys + termSize u = termSize-rec x a ys u in
       let room : place + (4 + termSize (rec x a ys u)) ≤ used = room₀ (rec x a ys u) is in
       (omega arith, omega arith)
-  sums-by _ _ (plannedUnroll {x} {q} {a} {ys} {u} st) is =
+  sums-by _ _ (plannedUnroll {x} {q} {a} {ys} {u} st counts) is =
       let z : termSize (rec x a ys u) ≡ 20 + 8 * length ys + termSize u = termSize-rec x a ys u in
       let room : place + (4 + termSize (rec x a ys u)) ≤ used = room₀ (rec x a ys u) is in
       (omega arith, omega arith)

@@ -6,6 +6,7 @@ use mathlib.Core.List.{List, map}
 use lib.ListN.{length}
 use native.Mathlib.Omega.{arith}
 use Rattle.rules.specs.Reduction.{onNext, reduce, reduceLetOne, unrollRec, valueOf}
+use Rattle.rules.specs.Replaced.{replaced, replacedLetAll, replacedLetOne, replacedNext}
 use Rattle.rules.specs.Substitution.{fromStore, only, substitute}
 use Rattle.rules.specs.Syntax.{Atom, Simple, Term, letAll, letOne, next, num, over, plain, predOf, rec, succOf, tuple}
 use Rattle.record.specs.Term.{simpleSize, termSize}
@@ -20,48 +21,48 @@ use Rattle.redex.specs.Plan.{planLetOne, planRedex}
 
 -- THE PLAN
 
--- The plan of a redex at p: its parts, and what it reduces to.
+-- The plan of a redex at p: its parts, what it reduces to, and what that replaces.
 pub data Planned (ok : ℕ → Bool) (levels p : ℕ) : Term → Plan → Type 0 where
   plannedFinished : {t : Term} → Planned ok levels p t (plan levels p Finished 0 0 0 0)
   plannedOver : {t : Term} {x : ℕ} → Planned ok levels p t (plan levels p Over x 0 0 0)
   plannedBind : {x v : ℕ} {a : Atom} {u : Term} → reduce ok (letOne x (plain a) u) ≡ next (substitute (only x v) u)
-      → Planned ok levels p (letOne x (plain a) u) (plan levels p Bind x v 0 16)
+      → replacedNext (letOne x (plain a) u) ≡ replaced (only x v) u → Planned ok levels p (letOne x (plain a) u) (plan levels p Bind x v 0 16)
   plannedEvaluate : {x v : ℕ} {s : Simple} {u : Term} → simpleSize s ≡ 12 → reduce ok (letOne x s u) ≡ next (letOne x (plain (num v)) u)
-      → Planned ok levels p (letOne x s u) (plan levels p Evaluate x v 0 4)
+      → replacedNext (letOne x s u) ≡ 0 → Planned ok levels p (letOne x s u) (plan levels p Evaluate x v 0 4)
   plannedLeave : {ys : List Atom} {u : Term} → reduce ok (letAll (tuple ys) u) ≡ next (substitute (fromStore (map valueOf ys)) u)
-      → Planned ok levels p (letAll (tuple ys) u) (plan levels p Leave 0 0 0 (8 + 8 * length ys))
+      → replacedNext (letAll (tuple ys) u) ≡ replaced (fromStore (map valueOf ys)) u → Planned ok levels p (letAll (tuple ys) u) (plan levels p Leave 0 0 0 (8 + 8 * length ys))
   plannedStop : {x : ℕ} {a : Atom} {ys : List Atom} {u : Term} → reduce ok (rec x a ys u) ≡ next (tuple ys)
-      → Planned ok levels p (rec x a ys u) (plan levels p Stop x 0 0 (20 + termSize u))
+      → replacedNext (rec x a ys u) ≡ 0 → Planned ok levels p (rec x a ys u) (plan levels p Stop x 0 0 (20 + termSize u))
   plannedUnroll : {x q : ℕ} {a : Atom} {ys : List Atom} {u : Term}
       → reduce ok (rec x a ys u) ≡ next (letAll (rec x (num q) ys u) (letOne x (plain (num (suc q))) u))
-      → Planned ok levels p (rec x a ys u) (plan levels p Unroll x (suc q) (24 + termSize u) 0)
+      → replacedNext (rec x a ys u) ≡ 0 → Planned ok levels p (rec x a ys u) (plan levels p Unroll x (suc q) (24 + termSize u) 0)
 
 module _ (ok : ℕ → Bool) (levels p : ℕ) where
   planned-raise : (x : ℕ) (a : Atom) (t : Term) (b : Bool) → ok (suc (valueOf a)) ≡ b → Planned ok levels p (letOne x (succOf a) t) (planRaise levels p x (suc (valueOf a)) 4 b)
-  unfolding planRaise reduce reduceLetOne
-  planned-raise x a t true e = plannedEvaluate (size-succ a) (ap (λ (c : Bool). cond c (next (letOne x (plain (num (suc (valueOf a)))) t)) over) e)
+  unfolding planRaise reduce reduceLetOne replacedNext replacedLetOne
+  planned-raise x a t true e = plannedEvaluate (size-succ a) (ap (λ (c : Bool). cond c (next (letOne x (plain (num (suc (valueOf a)))) t)) over) e) refl
   planned-raise x a t false e = plannedOver
 
   planned-letOne : (x : ℕ) (s : Simple) (t : Term) → Planned ok levels p (letOne x s t) (planLetOne ok levels p x s)
-  unfolding planLetOne reduce reduceLetOne
-  planned-letOne x (plain a) t = plannedBind refl
+  unfolding planLetOne reduce reduceLetOne replacedNext replacedLetOne
+  planned-letOne x (plain a) t = plannedBind refl refl
   planned-letOne x (succOf a) t = planned-raise x a t (ok (suc (valueOf a))) refl
-  planned-letOne x (predOf a) t = plannedEvaluate (size-pred a) refl
+  planned-letOne x (predOf a) t = plannedEvaluate (size-pred a) refl refl
 
   planned-rec : (x : ℕ) (a : Atom) (ys : List Atom) (t : Term) (v : ℕ) → valueOf a ≡ v → Planned ok levels p (rec x a ys t) (planTurn levels p x (4 + termSize t) v)
-  unfolding planTurn reduce unrollRec
+  unfolding planTurn reduce unrollRec replacedNext
   planned-rec x a ys t zero e =
       let s : 20 + termSize t ≡ 16 + (4 + termSize t) = omega arith in
-      subst (λ (m : ℕ). Planned ok levels p (rec x a ys t) (plan levels p Stop x 0 0 m)) s (plannedStop (ap (λ (n : ℕ). next (unrollRec x n ys t)) e))
+      subst (λ (m : ℕ). Planned ok levels p (rec x a ys t) (plan levels p Stop x 0 0 m)) s (plannedStop (ap (λ (n : ℕ). next (unrollRec x n ys t)) e) refl)
   planned-rec x a ys t (suc q) e =
       let s : 24 + termSize t ≡ 20 + (4 + termSize t) = omega arith in
-      subst (λ (m : ℕ). Planned ok levels p (rec x a ys t) (plan levels p Unroll x (suc q) m 0)) s (plannedUnroll (ap (λ (n : ℕ). next (unrollRec x n ys t)) e))
+      subst (λ (m : ℕ). Planned ok levels p (rec x a ys t) (plan levels p Unroll x (suc q) m 0)) s (plannedUnroll (ap (λ (n : ℕ). next (unrollRec x n ys t)) e) refl)
 
   pub planned-redex : (t : Term) → Planned ok levels p t (planRedex ok levels p t)
-  unfolding planRedex
+  unfolding planRedex replacedNext replacedLetAll
   planned-redex (tuple ys) = plannedFinished
   planned-redex (letOne x s t) = planned-letOne x s t
-  planned-redex (letAll (tuple ys) u) = plannedLeave (reduce-letAll-tuple ok ys u)
+  planned-redex (letAll (tuple ys) u) = plannedLeave (reduce-letAll-tuple ok ys u) refl
   planned-redex (letAll (letOne x s t) u) = plannedFinished
   planned-redex (letAll (letAll s t) u) = plannedFinished
   planned-redex (letAll (rec x a ys t) u) = plannedFinished

@@ -6,6 +6,7 @@ use lib.ListN.{length}
 use Rattle.buffer.specs.LittleEndian.{le, val}
 use Rattle.buffer.specs.Slice.{part, put}
 use Rattle.rules.specs.Reduction.{reduce}
+use Rattle.rules.specs.Replaced.{replaced, replacedNext}
 use Rattle.rules.specs.Substitution.{fromStore, only, substitute}
 use Rattle.rules.specs.Syntax.{Term, next, num, tuple}
 use Rattle.record.specs.Answers.{padded}
@@ -43,18 +44,20 @@ unfoldable pub unrolledAt : List ℕ → ℕ → ℕ → ℕ → ℕ → ℕ →
 unrolledAt l p k up used x v =
     unrolled l p (up + 8 * k) (20 + 8 * k) used (recordHead 38 (up + 8 * k + up)) (leafBytes 32 (v - 1)) (lead 37 (up - 4) x 32 v)
 
--- What the edit of a plan makes of the bytes l, with the lengths around the redex still to be brought up to date. The terms that
--- are substituted into are those that stand in l.
-abbrev pub Edited : ℕ → Plan → Rule → ℕ → List ℕ → List ℕ → Type 0
-Edited k p Finished used l m = m ≡ l
-Edited k p Over used l m = m ≡ l
-Edited k p Bind used l m = (u : Term) → RangedTerm l (p .at + 16) k u → m ≡ filledAt l (p .at) 16 (substitute (only (p .variable) (p .value)) u) used
-Edited k p Evaluate used l m = m ≡ numeralAt l (p .at) used (p .value)
-Edited k p Leave used l m =
+-- What the edit of a plan makes of the bytes l, with the lengths around the redex still to be brought up to date, and the n variables
+-- that it replaces. The terms that are substituted into are those that stand in l.
+abbrev pub Edited : ℕ → Plan → Rule → ℕ → List ℕ → List ℕ → ℕ → Type 0
+Edited k p Finished used l m n = (m ≡ l) × (n ≡ 0)
+Edited k p Over used l m n = (m ≡ l) × (n ≡ 0)
+Edited k p Bind used l m n =
+    (u : Term) → RangedTerm l (p .at + 16) k u
+    → (m ≡ filledAt l (p .at) 16 (substitute (only (p .variable) (p .value)) u) used) × (n ≡ replaced (only (p .variable) (p .value)) u)
+Edited k p Evaluate used l m n = (m ≡ numeralAt l (p .at) used (p .value)) × (n ≡ 0)
+Edited k p Leave used l m n =
     (vs : List ℕ) (u : Term) → TermAt l (p .at + 4) k (tuple (map num vs)) → RangedTerm l (p .at + p .down) k u
-    → m ≡ filledAt l (p .at) (p .down) (substitute (fromStore vs) u) used
-Edited k p Stop used l m = m ≡ stoppedAt l (p .at) k (p .down) used
-Edited k p Unroll used l m = m ≡ unrolledAt l (p .at) k (p .up) used (p .variable) (p .value)
+    → (m ≡ filledAt l (p .at) (p .down) (substitute (fromStore vs) u) used) × (n ≡ replaced (fromStore vs) u)
+Edited k p Stop used l m n = (m ≡ stoppedAt l (p .at) k (p .down) used) × (n ≡ 0)
+Edited k p Unroll used l m n = (m ≡ unrolledAt l (p .at) k (p .up) used (p .variable) (p .value)) × (n ≡ 0)
 
 -- What the edit of a plan asks: the terms that it substitutes into, its bytes within the record, and growth within the buffer.
 abbrev pub EditFits : ℕ → Plan → Rule → List ℕ → ℕ → Type 0
@@ -83,11 +86,12 @@ pub record Ready (h : Header) (t : Term) (buf : List ℕ) (used : ℕ) (p : Plan
   pub moves : Moves (p .rule)
   pub fits : used + p .up ≤ length buf + p .down
 
--- From the term t in a buffer of `room` bytes: the rules' next term stands in the buffer, with zeros behind it, and `used` is
--- its length.
-pub record Performed (h : Header) (t : Term) (room : ℕ) (buf : List ℕ) (used : ℕ) : Type 0 where
+-- From the term t in a buffer of `room` bytes: the rules' next term stands in the buffer, with zeros behind it, `used` is its
+-- length, and n the variables replaced.
+pub record Performed (h : Header) (t : Term) (room : ℕ) (buf : List ℕ) (used n : ℕ) : Type 0 where
   pub after : Term
   pub reduces : reduce (okOf h) t ≡ next after
   pub bytes : buf ≡ padded room (encodeTerm h after)
   pub size : used ≡ length (encodeTerm h after)
+  pub replaces : n ≡ replacedNext t
   pub stands : Stands h after buf used

@@ -21,7 +21,7 @@ use Rattle.record.proofs.RowLaws.{first-before, first-behind, first-none, first
 use Rattle.reducer.specs.RunReducer.{runReducer}
 use Rattle.run.specs.RunAnswer.{RunAnswer}
 use Rattle.stepper.specs.RunStepper.{runStepper}
-use Rattle.term.specs.Calls.{substituteCall, tooShort, translateCall, translateRows, translated}
+use Rattle.term.specs.Calls.{Substituted, substituteCall, tooShort, translateCall, translateRows, translated}
 use Rattle.term.proofs.CallLaws.{translate-number}
 use Rattle.print.specs.Words.{ranLine, refusedLine}
 use Rattle.report.specs.Line.{inputRows, kOfInput, line, lineBy, lineRows, programBudget, programBuffer, recordOf, reducerFrom, reducerRun, runsLine, saidLength, stepperRun, storeOf, substitutedFrom, termOfInput, valuesIn}
@@ -55,7 +55,7 @@ translate-same src used out other e y z =
     ∙ sym (wrote-accepted (firstRow (translateRows src used other)) (translated src used) other (sym (translate-number src used other) ∙ z))
 
 -- What the calls answer, each given what the one before it left.
-pub runs-answer : (a : List ℕ) (said : ℕ) (b : List ℕ) (used : ℕ) (vs store after : List ℕ) (filled : Wrote) (s r : RunAnswer)
+pub runs-answer : (a : List ℕ) (said : ℕ) (b : List ℕ) (used : ℕ) (vs store after : List ℕ) (filled : Substituted) (s r : RunAnswer)
     → store ≡ vs → filled ≡ substituteCall b used store
     → s ≡ (runStepper a said store programBudget) .answer → after ≡ (runStepper a said store programBudget) .store
     → r ≡ (runReducer (filled .written) (filled .used) programBudget) .answer

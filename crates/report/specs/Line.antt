@@ -9,7 +9,7 @@ use Rattle.record.specs.Answers.{Wrote, padded}
 use Rattle.record.specs.Rows.{Row, firstRow, kOf, programRows, row}
 use Rattle.reducer.specs.RunReducer.{ReducerCall, runReducer}
 use Rattle.stepper.specs.RunStepper.{StepperCall, runStepper}
-use Rattle.term.specs.Calls.{substituteCall, tooShort, translateCall, translated}
+use Rattle.term.specs.Calls.{Substituted, substituteCall, tooShort, translateCall, translated}
 use Rattle.print.specs.Words.{ranLine, refusedLine}
 
 -- THE INPUT: a program record, whose first two bytes say how long it is, and then its k values, 4 bytes each
@@ -54,11 +54,11 @@ unfoldable pub stepperRun : List ℕ → StepperCall
 stepperRun input = runStepper (padded programBuffer (recordOf input)) (saidLength input) (storeOf input) programBudget
 
 -- The reducer's run of what substitute wrote.
-unfoldable pub reducerFrom : Wrote → ReducerCall
+unfoldable pub reducerFrom : Substituted → ReducerCall
 reducerFrom s = runReducer (s .written) (s .used) programBudget
 
 -- What substitute answers, of what translate wrote and of the store.
-unfoldable pub substitutedFrom : List ℕ → Wrote → Wrote
+unfoldable pub substitutedFrom : List ℕ → Wrote → Substituted
 substitutedFrom input t = substituteCall (t .written) (t .used) (storeOf input)
 
 -- The reducer's run, of the program's term with the store substituted.

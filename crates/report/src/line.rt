@@ -40,7 +40,7 @@ fn run_both(
     let filled = substitute(b, used, store);
     let stepper = run_stepper(a, said, store, BUDGET);
     let reducer = run_reducer(b, filled.used as usize, BUDGET);
-    put_ran(b, stepper, reducer, store)
+    put_ran(b, stepper, reducer.end, store)
 }
 
 // The first r bytes of the reducer's buffer are the line.

@@ -3,6 +3,7 @@ use Prim.Native.Nat.{_+_, suc, zero, ℕ}
 use mathlib.Core.Path.{ap, fun-ext, refl, subst, _∙_, _≡_}
 use mathlib.Core.Option.{Option, none, some}
 use native.Mathlib.Nat.{suc-add, zero-add}
+use native.Mathlib.Omega.{arith}
 use Rattle.rules.specs.Run.{iterate, orStop}
 use Rattle.rules.specs.Syntax.{Answer, finished, next, over}
 
@@ -49,7 +50,17 @@ module _ {A : Type 0} (f : A → Answer A) (P : A → Type 0) (keeps : (a : A) �
   pub iterate-keeps : (n : ℕ) (a b : A) → P a → iterate f n a ≡ some b → P b
   iterate-keeps n a b h e = subst (OnSome P) e (iterate-keeps-on n a h)
 
+-- one step and then others
+pub iterate-first : {A : Type 0} (f : A → Answer A) (n : ℕ) (a b c : A) → f a ≡ next b → iterate f n b ≡ some c → iterate f (suc n) a ≡ some c
+unfolding iterate orStop
+iterate-first {A} f n a b c p q = ap (λ (o : Answer A). orStop o (λ (d : A). iterate f n d)) p ∙ q
+
 -- two stretches of steps are one
 pub iterate-further : {A : Type 0} (f : A → Answer A) (m n : ℕ) (a b c : A) → iterate f m a ≡ some b → iterate f n b ≡ some c → iterate f (m + n) a ≡ some c
 unfolding thenIterate
 iterate-further f m n a b c p q = iterate-add f m n a ∙ ap (λ o. thenIterate o (iterate f n)) p ∙ q
+
+-- and then one more
+pub iterate-last : {A : Type 0} (f : A → Answer A) (n : ℕ) (a b c : A) → iterate f n a ≡ some b → f b ≡ next c → iterate f (suc n) a ≡ some c
+iterate-last f n a b c p q =
+    ap (λ j. iterate f j a) {x = suc n} {y = n + 1} (omega arith) ∙ iterate-further f n 1 a b c p (iterate-first f 0 b c c q (unfold iterate in refl))

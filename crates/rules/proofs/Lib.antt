@@ -16,3 +16,4 @@ pub mod RulesLaws
 pub mod OverLaws
 pub mod WalkLaws
 pub mod EvaluateLaws
+pub mod ReplacedLaws

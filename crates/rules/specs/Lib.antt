@@ -12,3 +12,4 @@ pub mod Sound
 pub mod Run
 pub mod Evaluate
 pub mod Play
+pub mod Replaced

@@ -1,16 +1,17 @@
 -- A run in a buffer answers as demand 2 says, and stays in its buffer.
 use Prim.Native.Nat.{_<_, suc, zero, ℕ, _≤_}
-use mathlib.Core.Path.{ap, refl, sym, _∙_, _≡_}
+use mathlib.Core.Path.{ap, refl, subst, sym, _∙_, _≡_}
 use mathlib.Core.Logic.{Iff·trans, _↔_}
 use mathlib.Core.Bool.{false, true}
 use mathlib.Core.List.{List}
-use mathlib.Core.Option.{some}
+use mathlib.Core.Option.{Option·some-injective, some}
 use borrow.Author.Tests.{le-leb, leb-true}
 use lib.Dec.{leb}
 use lib.ListN.{length}
 use native.Mathlib.Omega.{arith}
 use Rattle.rules.specs.Run.{Further, Outcome, isFinished, isOver, iterate, noRoom, refused, spent}
 use Rattle.rules.specs.Syntax.{Answer, next}
+use Rattle.rules.proofs.IterateLaws.{iterate-last}
 use Rattle.rules.proofs.OutcomeLaws.{run-reads, run-spent}
 use Rattle.rules.proofs.RunLaws.{Makes, run-le, run-makes, run-reached, run-room}
 use Rattle.rules.proofs.Tests.{iff-beside, iff-under, leb-iff, leb-not}
@@ -83,3 +84,13 @@ module _ {A : Type 0} (f : A → Answer A) (bytes : A → List ℕ) (room : ℕ)
 
   pub run-stays : (a : A) (budget : ℕ) → length (bytes a) ≤ room → length (bytes ((runIn f bytes room budget a) .state)) ≤ room
   run-stays a budget h = room-fits ((runIn f bytes room budget a) .state) (run-room f (roomFor bytes room) budget a (fits-room a h))
+
+  -- and so does every state on the way
+  pub run-way : (a : A) (budget : ℕ) → length (bytes a) ≤ room → (i : ℕ) (b : A) → i ≤ (runIn f bytes room budget a) .count → iterate f i a ≡ some b → length (bytes b) ≤ room
+  unfolding iterate
+  run-way a budget h zero b l e = subst (λ (c : A). length (bytes c) ≤ room) (Option·some-injective a b e) h
+  run-way a budget h (suc i) b l e =
+      let made = run-answers a budget .makes i (omega arith) .0 (omega arith) .1 in
+      let c : A = made .0 in
+      let next-is = iterate-last f i a c (made .2 .0) (made .1) (made .2 .1) in
+      subst (λ (d : A). length (bytes d) ≤ room) (Option·some-injective (made .2 .0) b (sym next-is ∙ e)) (made .2 .2)

@@ -8,9 +8,11 @@ use native.Mathlib.Omega.{arith}
 use Rattle.buffer.specs.LittleEndian.{le, val}
 use Rattle.buffer.specs.Slice.{part, put}
 use Rattle.record.specs.Term.{encodeAtom, encodeAtoms}
+use Rattle.rules.specs.Replaced.{replacedAtom, replacedAtoms}
 use Rattle.rules.specs.Scope.{AtomWithin}
 use Rattle.rules.specs.Substitution.{Substitution, orRef, substituteAtom}
 use Rattle.rules.specs.Syntax.{Atom, num, ref}
+use Rattle.rules.proofs.ReplacedLaws.{replaced-empty, replaced-none, replaced-num, replaced-row, replaced-some}
 use Rattle.place.proofs.AtLaws.{put-same}
 use Rattle.place.proofs.TermSubstitutionLaws.{num-stored, onward-row, row-empty}
 use Rattle.place.proofs.TermViewLaws.{as-num, as-ref, atom-kind, atom-view}
@@ -43,60 +45,77 @@ module _ {l : List ℕ} {p : ℕ} {a : Atom} (h : RangedAtom l p a) where
       let w : AtomWithin 16 (ref (val (part l (p + 4) 4))) = subst (AtomWithin 16) (as-ref (h .here) e) (h .range) in
       omega (arith, w .1)
 
-  pub atom-num : (f : Substitution) → (val (part l (p + 2) 2) ≡ 33 → ⊥) → l ≡ put l p (encodeAtom (substituteAtom f a))
+  -- THE THREE WAYS OUT, each with the bytes and the count: a numeral, a variable that is replaced, and one that stays
+  pub atom-num : (f : Substitution) → (val (part l (p + 2) 2) ≡ 33 → ⊥) → (l ≡ put l p (encodeAtom (substituteAtom f a))) × (0 ≡ replacedAtom f a)
   atom-num f ne =
       let k = atom-kind (h .here) in
       let e : val (part l (p + 2) 2) ≡ 32 = omega arith in
-      let is = as-num (h .here) e in
-      sym (ap (λ (y : Atom). put l p (encodeAtom y)) (ap (substituteAtom f) is ∙ substitute-num f (val (part l (p + 4) 4)) ∙ sym is) ∙ put-same (h .here .here))
+      let is = as-num (h .here) e in (
+        sym (ap (λ (y : Atom). put l p (encodeAtom y)) (ap (substituteAtom f) is ∙ substitute-num f (val (part l (p + 4) 4)) ∙ sym is) ∙ put-same (h .here .here)),
+        sym (ap (replacedAtom f) is ∙ replaced-num f (val (part l (p + 4) 4))),
+      )
 
   module _ (w : List ℕ) (v : ℕ) (long : length w ≡ 17) (kind : val (part l (p + 2) 2) ≡ 33) (read : v ≡ getD w (val (part l (p + 4) 4)) 0) where
-    pub atom-stored : v < stays → put (put l (p + 2) (le 2 32)) (p + 4) (le 4 v) ≡ put l p (encodeAtom (substituteAtom (substitutionOf w) a))
+    pub atom-stored : v < stays
+        → (put (put l (p + 2) (le 2 32)) (p + 4) (le 4 v) ≡ put l p (encodeAtom (substituteAtom (substitutionOf w) a))) × (1 ≡ replacedAtom (substitutionOf w) a)
     atom-stored b =
         let s = value-some w (val (part l (p + 4) 4)) v (omega (arith, ranged-low kind)) read b in
-        num-stored (h .here) v
-        ∙ ap (λ (y : Atom). put l p (encodeAtom y)) (sym (ap (substituteAtom (substitutionOf w)) (as-ref (h .here) kind) ∙ substitute-some (substitutionOf w) (val (part l (p + 4) 4)) v s))
+        let is = as-ref (h .here) kind in (
+          num-stored (h .here) v
+              ∙ ap (λ (y : Atom). put l p (encodeAtom y)) (sym (ap (substituteAtom (substitutionOf w)) is ∙ substitute-some (substitutionOf w) (val (part l (p + 4) 4)) v s)),
+          sym (ap (replacedAtom (substitutionOf w)) is ∙ replaced-some (substitutionOf w) (val (part l (p + 4) 4)) v s),
+        )
 
-    pub atom-stays : stays ≤ v → l ≡ put l p (encodeAtom (substituteAtom (substitutionOf w) a))
+    pub atom-stays : stays ≤ v → (l ≡ put l p (encodeAtom (substituteAtom (substitutionOf w) a))) × (0 ≡ replacedAtom (substitutionOf w) a)
     atom-stays b =
         let s = value-none w (val (part l (p + 4) 4)) v (omega (arith, ranged-low kind)) read b in
-        let is = as-ref (h .here) kind in
-        sym (ap (λ (y : Atom). put l p (encodeAtom y)) (ap (substituteAtom (substitutionOf w)) is ∙ substitute-none (substitutionOf w) (val (part l (p + 4) 4)) s ∙ sym is) ∙ put-same (h .here .here))
+        let is = as-ref (h .here) kind in (
+          sym (ap (λ (y : Atom). put l p (encodeAtom y)) (ap (substituteAtom (substitutionOf w)) is ∙ substitute-none (substitutionOf w) (val (part l (p + 4) 4)) s ∙ sym is) ∙ put-same (h .here .here)),
+          sym (ap (replacedAtom (substitutionOf w)) is ∙ replaced-none (substitutionOf w) (val (part l (p + 4) 4)) s),
+        )
 
 -- A ROW OF ATOMS
 
--- What is left to do of a row: storing the substitution of its atoms where they stand gives `to`.
-abbrev pub SubstituteRow : List ℕ → List ℕ → List ℕ → ℕ → ℕ → Type 0
-SubstituteRow w l to = Row l (λ p ys. put l p (encodeAtoms (map (substituteAtom (substitutionOf w)) ys)) ≡ to)
+-- What is left to do of a row: storing the substitution of its atoms where they stand gives `to`, and what they replace, beside the
+-- n replaced already, is `total`.
+abbrev pub SubstituteRow : List ℕ → List ℕ → List ℕ → ℕ → ℕ → ℕ → ℕ → Type 0
+SubstituteRow w l to n total =
+    Row l (λ p ys. (put l p (encodeAtoms (map (substituteAtom (substitutionOf w)) ys)) ≡ to) × (n + replacedAtoms (substitutionOf w) ys ≡ total))
 
 -- Its first atom, and what is left once that is stored.
-pub record SubstituteFirst (w l to : List ℕ) (p n : ℕ) : Type 0 where
+pub record SubstituteFirst (w l to : List ℕ) (n total p count : ℕ) : Type 0 where
   pub atom : Atom
   pub here : RangedAtom l p atom
-  pub next : (l₁ : List ℕ) → l₁ ≡ put l p (encodeAtom (substituteAtom (substitutionOf w) atom)) → SubstituteRow w l₁ to (p + 8) (n - 1)
+  pub most : (m : ℕ) → m ≡ replacedAtom (substitutionOf w) atom → n + m ≤ total
+  pub next : (l₁ : List ℕ) (m : ℕ) → (l₁ ≡ put l p (encodeAtom (substituteAtom (substitutionOf w) atom))) × (m ≡ replacedAtom (substitutionOf w) atom)
+      → SubstituteRow w l₁ to (n + m) total (p + 8) (count - 1)
 
-pub row-begin : (w : List ℕ) {l : List ℕ} {p n : ℕ} {ys : List Atom} → RangedAtoms l p n ys → SubstituteRow w l (put l p (encodeAtoms (map (substituteAtom (substitutionOf w)) ys))) p n
-row-begin w {ys = ys} h = record { atoms = ys; here = h; goal = refl }
+pub row-begin : (w : List ℕ) {l : List ℕ} {p count : ℕ} {ys : List Atom} → RangedAtoms l p count ys
+    → SubstituteRow w l (put l p (encodeAtoms (map (substituteAtom (substitutionOf w)) ys))) 0 (replacedAtoms (substitutionOf w) ys) p count
+row-begin w {ys = ys} h = record { atoms = ys; here = h; goal = (refl, omega arith) }
 
-module _ (w : List ℕ) {l to : List ℕ} {p n : ℕ} (r : SubstituteRow w l to p n) where
-  pub row-first : 0 < n → SubstituteFirst w l to p n
-  row-first b = go (r .atoms) (r .here) (r .goal)
+module _ (w : List ℕ) {l to : List ℕ} (n total : ℕ) {p count : ℕ} (r : SubstituteRow w l to n total p count) where
+  pub row-first : 0 < count → SubstituteFirst w l to n total p count
+  row-first b = go (r .atoms) (r .here) (r .goal .0) (r .goal .1)
     where
-      go : (ys : List Atom) → RangedAtoms l p n ys → put l p (encodeAtoms (map (substituteAtom (substitutionOf w)) ys)) ≡ to → SubstituteFirst w l to p n
-      go [] h g = absurd (omega (arith, h .count))
-      go (a ∷ ys) h g =
-          let f = ranged-first h in
+      go : (ys : List Atom) → RangedAtoms l p count ys → put l p (encodeAtoms (map (substituteAtom (substitutionOf w)) ys)) ≡ to → n + replacedAtoms (substitutionOf w) ys ≡ total → SubstituteFirst w l to n total p count
+      go [] h g c = absurd (omega (arith, h .count))
+      go (a ∷ ys) h g c =
+          let first = ranged-first h in
+          let parts = replaced-row (substitutionOf w) a ys in
           record {
             atom = a;
-            here = f .0;
-            next = λ l₁ e.
-                let v = onward-row (substitutionOf w) (h .here) l₁ e in
-                record { atoms = ys; here = record { here = v .0; range = f .1 .range; count = f .1 .count }; goal = v .1 ∙ g };
+            here = first .0;
+            most = λ m e. omega arith;
+            next = λ l₁ m e.
+                let v = onward-row (substitutionOf w) (h .here) l₁ (e .0) in
+                let is = e .1 in
+                record { atoms = ys; here = record { here = v .0; range = first .1 .range; count = first .1 .count }; goal = (v .1 ∙ g, omega arith) };
           }
 
-  pub row-done : n ≡ 0 → l ≡ to
-  row-done e = go (r .atoms) (r .here) (r .goal)
+  pub row-done : count ≡ 0 → (l ≡ to) × (n ≡ total)
+  row-done e = go (r .atoms) (r .here) (r .goal .0) (r .goal .1)
     where
-      go : (ys : List Atom) → RangedAtoms l p n ys → put l p (encodeAtoms (map (substituteAtom (substitutionOf w)) ys)) ≡ to → l ≡ to
-      go [] h g = sym (row-empty l p) ∙ g
-      go (a ∷ ys) h g = absurd (omega (arith, h .count))
+      go : (ys : List Atom) → RangedAtoms l p count ys → put l p (encodeAtoms (map (substituteAtom (substitutionOf w)) ys)) ≡ to → n + replacedAtoms (substitutionOf w) ys ≡ total → (l ≡ to) × (n ≡ total)
+      go [] h g c = (sym (row-empty l p) ∙ g, omega (arith, replaced-empty (substitutionOf w)))
+      go (a ∷ ys) h g c = absurd (omega (arith, h .count))

@@ -1,6 +1,6 @@
 -- What a call answers, by the way out of its code: one law for each.
 use Prim.Native.Nat.{_<_, ℕ, _≤_}
-use mathlib.Core.Path.{ap, refl, subst, sym, _∙_, _≡_}
+use mathlib.Core.Path.{ap, ap₂, refl, subst, sym, _∙_, _≡_}
 use mathlib.Core.Bool.{Bool, false, not, true, _||_}
 use mathlib.Core.List.{List, [], map, _∷_}
 use mathlib.Core.Option.{Option, none, some}
@@ -14,18 +14,22 @@ use Rattle.record.specs.Rows.{Row, badBuffer, badStore, finishedTerm, firstRow,
 use Rattle.rules.specs.FreeVariables.{allVars, closed, closedIn, noVars}
 use Rattle.rules.specs.ReadBack.{readBack}
 use Rattle.rules.specs.Reduction.{valueOf}
+use Rattle.rules.specs.Replaced.{replaced}
 use Rattle.rules.specs.Substitution.{fromStore, substitute}
 use Rattle.rules.specs.Syntax.{Block, Term, num, tuple}
 use Rattle.rules.specs.Translation.{translate}
 use Rattle.record.proofs.CheckedRowLaws.{closed-term, program-refuses, term-refuses}
-use Rattle.record.proofs.HoldingLaws.{term-k, term-passes}
+use Rattle.record.proofs.HeaderLaws.{length-encodeTerm}
+use Rattle.record.proofs.HoldingLaws.{term-k, term-passes, term-size}
+use Rattle.record.proofs.SizeLaws.{replaced-most}
 use Rattle.record.proofs.RowLaws.{first-applies, first-behind, first-skips, isNone-none, isNone-some, not-intro, or-right, or-true}
 use Rattle.record.proofs.RowMeaningLaws.{finished-iff, rows-mean}
 use Rattle.rules.proofs.FreeVariablesLaws.{closed-nums}
 use Rattle.rules.proofs.Tests.{true-false}
+use Rattle.term.specs.declared.substitute.Substituted as code
 use Rattle.term.specs.declared.Written.{Written}
-use Rattle.term.specs.Answer.{asWrote, refusedWith}
-use Rattle.term.specs.Calls.{readBackCall, readBackRows, resultCall, resultRows, substituteCall, substituteRows, translateCall, translateRows}
+use Rattle.term.specs.Answer.{asSubstituted, asWrote, refusedWith, refusesWith}
+use Rattle.term.specs.Calls.{Substituted, readBackCall, readBackRows, resultCall, resultRows, substituteCall, substituteRows, translateCall, translateRows}
 use Rattle.term.proofs.CallLaws.{readBack-fits, readBack-long, readBack-none, readBack-number, readBack-refused, result-first, result-refused, substitute-gives, substitute-refused, translate-fits, translate-long, translate-number, translate-refused}
 use Rattle.term.proofs.CallMeaningLaws.{result-gives}
 
@@ -38,8 +42,8 @@ pub answers : {r w : Written} {after : List ℕ} {x : Wrote} → r ≡ w → asW
 answers {r} {w} {after} {x} e h = ap (λ (v : Written). asWrote v after) e ∙ h
 
 -- a call that refuses by its first row, by the number of that row
-by-row : (rows : List Row) (out : List ℕ) (call : Wrote) → ((firstRow rows ≡ 0 → ⊥) → call ≡ refusal (firstRow rows) out) → (n : ℕ) → firstRow rows ≡ n → (n ≡ 0 → ⊥) → refusal n out ≡ call
-by-row rows out call refused n e h = sym (refused (λ z. h (sym e ∙ z)) ∙ ap (λ m. refusal m out) e)
+by-row : {A : Type 0} (rows : List Row) (refuses : ℕ → A) (call : A) → ((firstRow rows ≡ 0 → ⊥) → call ≡ refuses (firstRow rows)) → (n : ℕ) → firstRow rows ≡ n → (n ≡ 0 → ⊥) → refuses n ≡ call
+by-row rows refuses call refused n e h = sym (refused (λ z. h (sym e ∙ z)) ∙ ap refuses e)
 
 -- ROW 1 of a call with an output buffer
 
@@ -52,7 +56,7 @@ source-alone src used out h = or-right (badBuffer src used) (tooLong out) h
 -- TRANSLATE
 
 translate-row : (src : List ℕ) (used : ℕ) (out : List ℕ) (n : ℕ) → firstRow (translateRows src used out) ≡ n → (n ≡ 0 → ⊥) → refusal n out ≡ translateCall src used out
-translate-row src used out = by-row (translateRows src used out) out (translateCall src used out) (translate-refused src used out)
+translate-row src used out = by-row (translateRows src used out) (λ m. refusal m out) (translateCall src used out) (translate-refused src used out)
 
 pub translate-one : (src : List ℕ) (used : ℕ) (out : List ℕ) → tooLong out ≡ true → refusal 1 out ≡ translateCall src used out
 translate-one src used out h =
@@ -78,7 +82,7 @@ module _ {hd : Header} {P : Block} {src : List ℕ} {used : ℕ} (h : ProgramIn 
 -- READ BACK
 
 readBack-row : (src : List ℕ) (used : ℕ) (out : List ℕ) (n : ℕ) → firstRow (readBackRows src used out) ≡ n → (n ≡ 0 → ⊥) → refusal n out ≡ readBackCall src used out
-readBack-row src used out = by-row (readBackRows src used out) out (readBackCall src used out) (readBack-refused src used out)
+readBack-row src used out = by-row (readBackRows src used out) (λ m. refusal m out) (readBackCall src used out) (readBack-refused src used out)
 
 pub readBack-one : (src : List ℕ) (used : ℕ) (out : List ℕ) → tooLong out ≡ true → refusal 1 out ≡ readBackCall src used out
 readBack-one src used out h =
@@ -125,20 +129,32 @@ six-first {hd} {t} {buf} {used} h l store n more =
 
 -- SUBSTITUTE
 
-substitute-row : (buf : List ℕ) (used : ℕ) (store : List ℕ) (n : ℕ) → firstRow (substituteRows buf used store) ≡ n → (n ≡ 0 → ⊥) → refusal n buf ≡ substituteCall buf used store
-substitute-row buf used store = by-row (substituteRows buf used store) buf (substituteCall buf used store) (substitute-refused buf used store)
+-- A refusal of it.
+abbrev pub refusing : ℕ → List ℕ → Substituted
+refusing n buf = asSubstituted (refusesWith n) buf
+
+-- What the code hands back, by what it is equal to.
+pub substitute-answers : {r w : code.Substituted} {after : List ℕ} {x : Substituted} → r ≡ w → asSubstituted w after ≡ x → asSubstituted r after ≡ x
+substitute-answers {after = after} e h = ap (λ (v : code.Substituted). asSubstituted v after) e ∙ h
+
+substitute-row : (buf : List ℕ) (used : ℕ) (store : List ℕ) (n : ℕ) → firstRow (substituteRows buf used store) ≡ n → (n ≡ 0 → ⊥) → refusing n buf ≡ substituteCall buf used store
+substitute-row buf used store = by-row (substituteRows buf used store) (λ m. refusing m buf) (substituteCall buf used store) (substitute-refused buf used store)
 
 pub substitute-checked : (buf : List ℕ) (used n k : ℕ) (store : List ℕ) → checkTerm buf used ≡ record { number = n; k = k } → (n ≡ 0 → ⊥)
-    → refusal n buf ≡ substituteCall buf used store
+    → refusing n buf ≡ substituteCall buf used store
 substitute-checked buf used n k store e h = substitute-row buf used store n (term-refuses buf used n k e h (badBuffer buf used) refl _) h
 
 module _ {hd : Header} {t : Term} {buf : List ℕ} {used : ℕ} (h : TermIn allVars hd t buf used) (l : length buf ≤ 16384) (store : List ℕ) where
-  pub substitute-six : (length store ≡ hd .k → ⊥) → refusal 6 buf ≡ substituteCall buf used store
+  pub substitute-six : (length store ≡ hd .k → ⊥) → refusing 6 buf ≡ substituteCall buf used store
   substitute-six n = substitute-row buf used store 6 (six-first h l store n []) (λ z. omega (arith, z))
 
-  pub substitute-zero : length store ≡ hd .k → (after : List ℕ) → after ≡ padded (length buf) (encodeTerm hd (substitute (fromStore store) t))
-      → record { number = 0; used = used; written = after } ≡ substituteCall buf used store
-  substitute-zero e after a = ap (λ (b : List ℕ). record { number = 0; used = used; written = b }) a ∙ sym (substitute-gives h l store e)
+  -- at most a variable for every 8 bytes is replaced, and so the count takes 4 bytes
+  pub substitute-few : (n : ℕ) → n ≡ replaced (fromStore store) t → n ≤ 2048
+  substitute-few n e = omega (arith, replaced-most (fromStore store) t, length-encodeTerm hd t, term-size h, h .within, l)
+
+  pub substitute-zero : length store ≡ hd .k → (after : List ℕ) (n : ℕ) → (after ≡ padded (length buf) (encodeTerm hd (substitute (fromStore store) t))) × (n ≡ replaced (fromStore store) t)
+      → record { number = 0; used = used; replaced = n; written = after } ≡ substituteCall buf used store
+  substitute-zero e after n a = ap₂ (λ (b : List ℕ) (m : ℕ). record { number = 0; used = used; replaced = m; written = b }) (a .0) (a .1) ∙ sym (substitute-gives h l store e)
 
 -- RESULT
 

@@ -1,5 +1,5 @@
 -- Laws of translate, read back, substitute and result.
-use Prim.Native.Nat.{_+_, _<_, ℕ, _≤_}
+use Prim.Native.Nat.{_+_, _<_, suc, zero, ℕ, _≤_}
 use mathlib.Core.Path.{ap, ap₂, refl, sym, _∙_, _≡_}
 use mathlib.Core.Logic.{inl, inr, _↔_, _⊎_}
 use mathlib.Core.Bool.{Bool, false, not, true, _||_}
@@ -16,6 +16,7 @@ use Rattle.record.specs.Holding.{ProgramIn, TermIn}
 use Rattle.record.specs.Rows.{badBuffer, badStore, finishedTerm, firstRow, openTerm, row, theTermOf, tooLong, unfinished}
 use Rattle.rules.specs.FreeVariables.{Vars, allVars, closed}
 use Rattle.rules.specs.ReadBack.{readBack}
+use Rattle.rules.specs.Replaced.{replaced}
 use Rattle.rules.specs.Substitution.{fromStore, substitute}
 use Rattle.rules.specs.Syntax.{Block, Term, empty}
 use Rattle.rules.specs.Translation.{translate}
@@ -29,7 +30,7 @@ use Rattle.record.proofs.RowMeaningLaws.{ltb-iff}
 use Rattle.record.proofs.SizeLaws.{termSize-substitute}
 use Rattle.rules.proofs.ReadBackLaws.{readBack-translate, translate-readBack}
 use Rattle.rules.proofs.SoundTermLaws.{sound-translate}
-use Rattle.term.specs.Calls.{noSource, numerals, readBackCall, readBackRows, resultCall, resultRows, sourceBytes, sourceOf, substituteCall, substituteRows, substituted, tooShort, translateCall, translateRows, translated}
+use Rattle.term.specs.Calls.{noSource, numerals, readBackCall, readBackRows, resultCall, resultRows, sourceBytes, sourceOf, substituteCall, substituteRows, substituted, substitutedBy, tooShort, translateCall, translateRows, translated}
 
 -- ROW 10
 
@@ -65,14 +66,31 @@ pub readBack-refused : (src : List ℕ) (used : ℕ) (out : List ℕ) → (first
 unfolding readBackCall
 readBack-refused src used out h = wrote-refused (firstRow (readBackRows src used out)) (sourceBytes src used) out h
 
+-- the form of substitute's answer
+
+substituted-number : (m : ℕ) (bytes : List ℕ) (n : ℕ) (buf : List ℕ) → (substitutedBy m bytes n buf) .number ≡ m
+unfolding substitutedBy
+substituted-number zero bytes n buf = refl
+substituted-number (suc m) bytes n buf = refl
+
+substituted-accepted : (m : ℕ) (bytes : List ℕ) (n : ℕ) (buf : List ℕ) → m ≡ 0
+    → substitutedBy m bytes n buf ≡ record { number = 0; used = length bytes; replaced = n; written = padded (length buf) bytes }
+unfolding substitutedBy
+substituted-accepted m bytes n buf e = rw e refl
+
+substituted-refused : (m : ℕ) (bytes : List ℕ) (n : ℕ) (buf : List ℕ) → (m ≡ 0 → ⊥) → substitutedBy m bytes n buf ≡ record { number = m; used = 0; replaced = 0; written = buf }
+unfolding substitutedBy
+substituted-refused zero bytes n buf h = absurd (h refl)
+substituted-refused (suc m) bytes n buf h = refl
+
 pub substitute-number : (buf : List ℕ) (used : ℕ) (store : List ℕ) → (substituteCall buf used store) .number ≡ firstRow (substituteRows buf used store)
 unfolding substituteCall
-substitute-number buf used store = wrote-number (firstRow (substituteRows buf used store)) (substituted buf used store) buf
+substitute-number buf used store = substituted-number (firstRow (substituteRows buf used store)) (substituted buf used store) _ buf
 
 pub substitute-refused : (buf : List ℕ) (used : ℕ) (store : List ℕ) → (firstRow (substituteRows buf used store) ≡ 0 → ⊥)
-    → substituteCall buf used store ≡ record { number = firstRow (substituteRows buf used store); used = 0; written = buf }
+    → substituteCall buf used store ≡ record { number = firstRow (substituteRows buf used store); used = 0; replaced = 0; written = buf }
 unfolding substituteCall
-substitute-refused buf used store h = wrote-refused (firstRow (substituteRows buf used store)) (substituted buf used store) buf h
+substitute-refused buf used store h = substituted-refused (firstRow (substituteRows buf used store)) (substituted buf used store) _ buf h
 
 pub result-number : (buf : List ℕ) (used : ℕ) (store : List ℕ) → (resultCall buf used store) .number ≡ firstRow (resultRows buf used store)
 unfolding resultCall
@@ -151,14 +169,16 @@ module _ {S : Vars} {hd : Header} {t : Term} {buf : List ℕ} {used : ℕ} (h : 
   substituted-is store = ap₂ (λ (x : Header) (u : Term). encodeTerm x (substitute (fromStore store) u)) (term-header h) (term-is h l)
 
   pub substitute-gives : (store : List ℕ) → length store ≡ hd .k
-      → substituteCall buf used store ≡ record { number = 0; used = used; written = padded (length buf) (encodeTerm hd (substitute (fromStore store) t)) }
+      → substituteCall buf used store
+      ≡ record { number = 0; used = used; replaced = replaced (fromStore store) t; written = padded (length buf) (encodeTerm hd (substitute (fromStore store) t)) }
   unfolding substituteCall
   substitute-gives store e =
       let z : firstRow (substituteRows buf used store) ≡ 0 =
       none-first (substituteRows buf used store) (term-passes h l (row 6 (badStore buf used store) ∷ []) (store-good buf used store (e ∙ sym (term-k h)), tt)) in
-      wrote-accepted (firstRow (substituteRows buf used store)) (substituted buf used store) buf z
-      ∙ ap (λ (b : List ℕ). record { number = 0; used = length b; written = padded (length buf) b }) (substituted-is store)
-      ∙ ap (λ (n : ℕ). record { number = 0; used = n; written = padded (length buf) (encodeTerm hd (substitute (fromStore store) t)) }) (substitute-size h store)
+      let filled : List ℕ = padded (length buf) (encodeTerm hd (substitute (fromStore store) t)) in
+      substituted-accepted (firstRow (substituteRows buf used store)) (substituted buf used store) _ buf z
+      ∙ ap₂ (λ (b : List ℕ) (u : Term). record { number = 0; used = length b; replaced = replaced (fromStore store) u; written = padded (length buf) b }) (substituted-is store) (term-is h l)
+      ∙ ap (λ (n : ℕ). record { number = 0; used = n; replaced = replaced (fromStore store) t; written = filled }) (substitute-size h store)
 
   -- the first row of result's that applies is among 7 and 8
   pub result-first : (store : List ℕ) → length store ≡ hd .k → firstRow (resultRows buf used store) ≡ firstRow (row 7 (not (closed t)) ∷ row 8 (not (finishedTerm t)) ∷ [])

@@ -1,5 +1,5 @@
 -- What the four calls answer, proved.
-use Prim.Native.Nat.{ℕ, _≤_}
+use Prim.Native.Nat.{_+_, ℕ, _≤_}
 use mathlib.Core.Path.{ap, ap₂, refl, subst, sym, _∙_, _≡_}
 use mathlib.Core.Logic.{inl, _↔_, _⊎_}
 use mathlib.Core.Bool.{not, true}
@@ -15,7 +15,9 @@ use Rattle.record.specs.Holding.{IsProgram, ProgramIn, TermIn}
 use Rattle.record.specs.Rows.{finishedTerm, firstRow, row, theTermOf}
 use Rattle.rules.specs.FreeVariables.{Free, allVars, closed, noVars}
 use Rattle.rules.specs.ReadBack.{readBack}
+use Rattle.rules.specs.Replaced.{references}
 use Rattle.rules.specs.Sound.{SoundTerm}
+use Rattle.rules.specs.Substitution.{fromStore, substitute}
 use Rattle.rules.specs.Syntax.{Atom, Block, Term, num, tuple}
 use Rattle.rules.specs.Translation.{translate}
 use Rattle.record.proofs.AnswerLaws.{stored-accepted}
@@ -28,9 +30,10 @@ use Rattle.record.proofs.SizeLaws.{program-shorter}
 use Rattle.rules.proofs.FreeVariablesLaws.{free-closed}
 use Rattle.rules.proofs.ReadBackLaws.{readBack-translate, translate-readBack}
 use Rattle.rules.proofs.SoundTermLaws.{sound-closed, translate-sound}
+use Rattle.rules.proofs.ReplacedLaws.{replaced-references}
 use Rattle.rules.proofs.SubstitutionLaws.{values-num}
 use Rattle.term.specs.CallMeaning.{CallsMean, GivesBack}
-use Rattle.term.specs.Calls.{noSource, numerals, readBackCall, resultCall, resultRows, sourceOf, translateCall}
+use Rattle.term.specs.Calls.{Substituted, noSource, numerals, readBackCall, resultCall, resultRows, sourceOf, substituteCall, translateCall}
 use Rattle.term.proofs.CallLaws.{readBack-fits, readBack-long, readBack-roomy, reads-back, reads-none, result-first, result-number, source-is, substitute-gives, ten-iff, translate-fits, translate-holds, translate-length, translate-long, translate-writes}
 
 -- READ BACK, of a term in a buffer
@@ -145,6 +148,13 @@ round-trip-back {hd} {t} {src} {used} h l out back lo lb fb z =
     let q = reads-back h l out lo .0 (inl z) in
     back-again (q .0) (subst (λ (u : Term). TermIn allVars hd u src used) (sym (q .1)) h) l out lo back lb fb z
 
+-- SUBSTITUTE
+
+replaces : {hd : Header} {t : Term} {buf : List ℕ} {used : ℕ} → TermIn allVars hd t buf used → length buf ≤ 16384 → (store : List ℕ) → length store ≡ hd .k
+    → references t ≡ (substituteCall buf used store) .replaced + references (substitute (fromStore store) t)
+replaces {hd} {t} h l store e =
+    replaced-references (fromStore store) t ∙ ap (λ (s : Substituted). s .replaced + references (substitute (fromStore store) t)) (sym (substitute-gives h l store e))
+
 -- ALL OF IT
 
 pub calls-mean : CallsMean
@@ -162,6 +172,7 @@ calls-mean = record {
   roundTrip = λ hd P src used out back h l lo lb fb z. round-trip h l out back lo lb fb z;
   roundTripBack = λ hd t src used out back h l lo lb fb z. round-trip-back h l out back lo lb fb z;
   substitutes = λ hd t buf used store h l. substitute-gives h l store;
+  replaces = λ hd t buf used store h l. replaces h l store;
   results = λ hd values buf used store h l. result-gives h l store;
   resultsOpen = λ hd t buf used store h l. result-open h l store;
   resultsUnfinished = λ hd t buf used store h l. result-unfinished h l store;

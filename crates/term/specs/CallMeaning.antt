@@ -1,5 +1,5 @@
 -- WHAT THE FOUR CALLS ANSWER (demand 2), and what rows 9 and 10 say in plain facts.
-use Prim.Native.Nat.{_<_, ℕ, _≤_}
+use Prim.Native.Nat.{_+_, _<_, ℕ, _≤_}
 use mathlib.Core.Path.{_≡_}
 use mathlib.Core.Logic.{_↔_, _⊎_}
 use mathlib.Core.Bool.{true}
@@ -10,6 +10,7 @@ use Rattle.record.specs.declared.Header.{Header}
 use Rattle.record.specs.Header.{encodeProgram, encodeTerm}
 use Rattle.record.specs.Holding.{IsProgram, ProgramIn, TermIn}
 use Rattle.rules.specs.FreeVariables.{Free, allVars, noVars}
+use Rattle.rules.specs.Replaced.{references, replaced}
 use Rattle.rules.specs.Substitution.{fromStore, substitute}
 use Rattle.rules.specs.Syntax.{Atom, Block, Term, num, tuple}
 use Rattle.rules.specs.Translation.{translate}
@@ -59,7 +60,11 @@ pub record CallsMean : Type 0 where
       → translateCall ((readBackCall src used out) .written) ((readBackCall src used out) .used) back ≡ record { number = 0; used = used; written = padded (length back) (take used src) }
   -- SUBSTITUTE: the term with the store substituted; no length changes
   pub substitutes : (h : Header) (t : Term) (buf : List ℕ) (used : ℕ) (store : List ℕ) → TermIn allVars h t buf used → length buf ≤ 16384 → length store ≡ h .k
-      → substituteCall buf used store ≡ record { number = 0; used = used; written = padded (length buf) (encodeTerm h (substitute (fromStore store) t)) }
+      → substituteCall buf used store
+      ≡ record { number = 0; used = used; replaced = replaced (fromStore store) t; written = padded (length buf) (encodeTerm h (substitute (fromStore store) t)) }
+  -- and its count in plain facts: the variable records of the term are those that it turned into numerals and those that are left
+  pub replaces : (h : Header) (t : Term) (buf : List ℕ) (used : ℕ) (store : List ℕ) → TermIn allVars h t buf used → length buf ≤ 16384 → length store ≡ h .k
+      → references t ≡ (substituteCall buf used store) .replaced + references (substitute (fromStore store) t)
   -- RESULT: the numerals of a finished closed term; 7 of a term with a free variable, 8 of a closed one that is not finished
   pub results : (h : Header) (values buf : List ℕ) (used : ℕ) (store : List ℕ) → TermIn noVars h (tuple (map num values)) buf used → length buf ≤ 16384 → length store ≡ h .k
       → resultCall buf used store ≡ record { number = 0; store = values }

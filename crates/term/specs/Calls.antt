@@ -1,15 +1,16 @@
--- Translate, read back, substitute and result, over bytes (01 "Translation and read-back", "Filling", "Result and weighing").
-use Prim.Native.Nat.{ℕ}
+-- Translate, read back, substitute and result, over bytes (01 "Translation and read-back", "Filling", "Result and weighing"; 02 C-13).
+use Prim.Native.Nat.{suc, zero, ℕ}
 use mathlib.Core.Bool.{Bool, _||_}
 use mathlib.Core.List.{List, [], map, _∷_}
 use mathlib.Core.Option.{Option}
 use lib.Dec.{ltb}
 use lib.ListN.{length}
-use Rattle.record.specs.Answers.{Stored, Wrote, storedBy, wroteBy}
+use Rattle.record.specs.Answers.{Stored, Wrote, padded, storedBy, wroteBy}
 use Rattle.record.specs.Header.{encodeProgram, encodeTerm}
 use Rattle.record.specs.Rows.{Row, badBuffer, badStore, firstRow, headerOf, isNone, kOf, openTerm, orElse, programOf, programRows, row, termRows, theTermOf, tooLong, unfinished}
 use Rattle.rules.specs.ReadBack.{readBack}
 use Rattle.rules.specs.Reduction.{valueOf}
+use Rattle.rules.specs.Replaced.{replaced}
 use Rattle.rules.specs.Substitution.{fromStore, substitute}
 use Rattle.rules.specs.Syntax.{Block, Term, empty, letAll, letOne, rec, tuple}
 use Rattle.rules.specs.Translation.{translate}
@@ -57,6 +58,18 @@ readBackCall src used out = wroteBy (firstRow (readBackRows src used out)) (sour
 
 -- SUBSTITUTE (01's filling): rows 1 to 6, in place
 
+-- The answer, with how many variable records were turned into numerals, and the buffer that it leaves.
+pub record Substituted : Type 0 where
+  pub number : ℕ
+  pub used : ℕ
+  pub replaced : ℕ
+  pub written : List ℕ
+
+-- By the number of the row: the record that answers with zeros behind it, n being replaced, or the buffer as it came.
+unfoldable pub substitutedBy : ℕ → List ℕ → ℕ → List ℕ → Substituted
+substitutedBy zero bytes n buf = record { number = 0; used = length bytes; replaced = n; written = padded (length buf) bytes }
+substitutedBy (suc m) bytes n buf = record { number = suc m; used = 0; replaced = 0; written = buf }
+
 -- The record that answers: the term's, its free variables replaced by the store's numerals.
 abbrev pub substituted : List ℕ → ℕ → List ℕ → List ℕ
 substituted buf used store = encodeTerm (headerOf buf used) (substitute (fromStore store) (theTermOf buf used))
@@ -66,8 +79,9 @@ abbrev pub substituteRows : List ℕ → ℕ → List ℕ → List Row
 substituteRows buf used store = row 1 (badBuffer buf used) ∷ termRows buf used (row 6 (badStore buf used store) ∷ [])
 
 -- THE CALL: buffer, used length, store.
-unfoldable pub substituteCall : List ℕ → ℕ → List ℕ → Wrote
-substituteCall buf used store = wroteBy (firstRow (substituteRows buf used store)) (substituted buf used store) buf
+unfoldable pub substituteCall : List ℕ → ℕ → List ℕ → Substituted
+substituteCall buf used store =
+    substitutedBy (firstRow (substituteRows buf used store)) (substituted buf used store) (replaced (fromStore store) (theTermOf buf used)) buf
 
 -- RESULT: rows 1 to 8
 

@@ -5,8 +5,9 @@ ghost use Rattle.record.specs.Answers.{checkProgram, checkTerm};
 ghost use Rattle.checker.specs.Answer.{asChecked};
 ghost use Rattle.run.specs.Represents.{inNumbers};
 ghost use Rattle.stepper.specs.RunStepper.{runStepper};
+ghost use Rattle.reducer.specs.Represents as reducer;
 ghost use Rattle.reducer.specs.RunReducer.{runReducer};
-ghost use Rattle.term.specs.Answer.{asWrote};
+ghost use Rattle.term.specs.Answer.{asSubstituted, asWrote};
 ghost use Rattle.term.specs.Calls.{readBackCall, resultCall, substituteCall, translateCall};
 ghost use Rattle.weighing.specs.Weigh.{weighCall};
 
@@ -39,8 +40,12 @@ pub extern "C" fn vistrokk_read_back(src: &[u8], used: usize, out: &mut [u8]) ->
 }
 
 #[no_mangle]
-pub extern "C" fn vistrokk_substitute(buf: &mut [u8], used: usize, store: &[u32]) -> term::Written
-    ensures { λ r. ⌜ asWrote r (now (buf .exit)) ≡ substituteCall (now (buf .entry)) used (now (store .entry)) ⌝ }
+pub extern "C" fn vistrokk_substitute(
+    buf: &mut [u8],
+    used: usize,
+    store: &[u32],
+) -> term::substitute::Substituted
+    ensures { λ r. ⌜ asSubstituted r (now (buf .exit)) ≡ substituteCall (now (buf .entry)) used (now (store .entry)) ⌝ }
 {
     term::substitute::substitute(buf, used, store)
 }
@@ -72,8 +77,12 @@ pub extern "C" fn vistrokk_run_stepper(
 }
 
 #[no_mangle]
-pub extern "C" fn vistrokk_run_reducer(buf: &mut [u8], used: usize, budget: u32) -> run::RunNumbers
-    ensures { λ r. ⌜ (r ≡ inNumbers ((runReducer (now (buf .entry)) used budget) .answer)) × (now (buf .exit) ≡ (runReducer (now (buf .entry)) used budget) .buf) ⌝ }
+pub extern "C" fn vistrokk_run_reducer(
+    buf: &mut [u8],
+    used: usize,
+    budget: u32,
+) -> reducer::answer::ReducedNumbers
+    ensures { λ r. ⌜ (r ≡ reducer.inNumbers ((runReducer (now (buf .entry)) used budget) .answer) ((runReducer (now (buf .entry)) used budget) .replaced)) × (now (buf .exit) ≡ (runReducer (now (buf .entry)) used budget) .buf) ⌝ }
 {
-    run::in_numbers(reducer::run_reducer(buf, used, budget))
+    reducer::answer::in_numbers(reducer::run_reducer(buf, used, budget))
 }

@@ -3,25 +3,27 @@
 
 use super::substitute::{closed, fill, Values};
 use super::{half, put_half, put_head, put_leaf, put_word, run, word, Ahead, State};
-use other::calls::Ran;
+use other::calls::Reduced;
 use other::check::Refusal;
 
 const TERM: usize = 8;
 
-pub fn run_reducer(buf: &mut [u8], used: usize, budget: u32) -> Ran {
+pub fn run_reducer(buf: &mut [u8], used: usize, budget: u32) -> Reduced {
     let checked = super::check::check_term(buf, used);
     if checked.number != 0 {
-        return Ran::refused(checked.number);
+        return Reduced::refused(checked.number);
     }
     if !closed(buf, TERM) {
-        return Ran::refused(Refusal::FreeVariable);
+        return Reduced::refused(Refusal::FreeVariable);
     }
-    run(
+    let mut replaced = 0;
+    let ran = run(
         State { buf, used },
         budget,
         |state| ahead(state.buf),
-        perform,
-    )
+        |state, at, narrow, wide| replaced += u64::from(perform(state, at, narrow, wide)),
+    );
+    Reduced { ran, replaced }
 }
 
 fn ahead(buf: &[u8]) -> Ahead {
@@ -44,17 +46,19 @@ fn ahead(buf: &[u8]) -> Ahead {
     Ahead::Step { at, narrow, wide }
 }
 
-fn perform(state: &mut State, at: usize, narrow: usize, wide: usize) {
+/// One reduction; gives how many variables it replaced, which only the lets with a value do.
+fn perform(state: &mut State, at: usize, narrow: usize, wide: usize) -> u32 {
     match half(state.buf, at + 2) {
-        37 if half(state.buf, at + 10) == 32 => let_one(state, at, narrow, wide),
+        37 if half(state.buf, at + 10) == 32 => return let_one(state, at, narrow, wide),
         37 => compute(state, at, narrow, wide),
-        38 => let_all(state, at, narrow, wide),
+        38 => return let_all(state, at, narrow, wide),
         _ if word(state.buf, at + 12) == 0 => {
             state.buf.copy_within(at + 16..at + 16 + wide, at);
             state.resize(at, narrow, wide);
         }
         _ => unroll(state, at, narrow, wide),
     }
+    0
 }
 
 /// Succ or pred of a numeral becomes the numeral: the four bytes of its head go.
@@ -71,15 +75,15 @@ fn compute(state: &mut State, at: usize, narrow: usize, wide: usize) {
     put_leaf(state.buf, at + 8, 32, value);
 }
 
-fn let_one(state: &mut State, at: usize, narrow: usize, wide: usize) {
+fn let_one(state: &mut State, at: usize, narrow: usize, wide: usize) -> u32 {
     let mut values: Values = [None; 17];
     values[word(state.buf, at + 4) as usize] = Some(word(state.buf, at + 12));
     state.buf.copy_within(at + 16..at + narrow, at);
     state.resize(at, narrow, wide);
-    fill(state.buf, at, values);
+    fill(state.buf, at, values)
 }
 
-fn let_all(state: &mut State, at: usize, narrow: usize, wide: usize) {
+fn let_all(state: &mut State, at: usize, narrow: usize, wide: usize) -> u32 {
     let mut values: Values = [None; 17];
     let tuple = half(state.buf, at + 4);
     for (n, atom) in (at + 8..at + 4 + tuple).step_by(8).enumerate() {
@@ -87,7 +91,7 @@ fn let_all(state: &mut State, at: usize, narrow: usize, wide: usize) {
     }
     state.buf.copy_within(at + 4 + tuple..at + narrow, at);
     state.resize(at, narrow, wide);
-    fill(state.buf, at, values);
+    fill(state.buf, at, values)
 }
 
 /// Rec of q + 1 becomes let-all of the rec of q in let-one index = q + 1 in the body.

@@ -1,42 +1,46 @@
 //! Substitution along the one path on which a variable can be free, and the test for one.
 
 use super::{half, put_head, put_word, word};
-use other::calls::Written;
+use other::calls::Substituted;
 use other::check::Refusal;
 
 /// The value of each variable, its number the index; none for one that stays.
 pub type Values = [Option<u32>; 17];
 
-pub fn substitute(buf: &mut [u8], used: usize, store: &[u32]) -> Written {
+pub fn substitute(buf: &mut [u8], used: usize, store: &[u32]) -> Substituted {
     let checked = super::check::check_term(buf, used);
     if checked.number != 0 {
-        return Written::refused(checked.number);
+        return Substituted::refused(checked.number);
     }
     if store.len() != checked.k as usize {
-        return Written::refused(Refusal::BadStore);
+        return Substituted::refused(Refusal::BadStore);
     }
     let mut values = [None; 17];
     for (variable, value) in store.iter().enumerate() {
         values[variable + 1] = Some(*value);
     }
-    fill(buf, 8, values);
+    let replaced = fill(buf, 8, values);
     buf[used..].fill(0);
-    Written {
+    Substituted {
         number: 0,
         used: used as u32,
+        replaced,
     }
 }
 
-/// Puts the values for the variables that are free in the term at this place.
-pub fn fill(buf: &mut [u8], at: usize, values: Values) {
+/// Puts the values for the variables that are free in the term at this place, and counts them.
+pub fn fill(buf: &mut [u8], at: usize, values: Values) -> u32 {
+    let mut replaced = 0;
     walk(at, values, buf, |buf, at, values| {
         if half(buf, at + 2) == 33 {
             if let Some(value) = values[word(buf, at + 4) as usize] {
                 put_head(buf, at, 8, 32);
                 put_word(buf, at + 4, value);
+                replaced += 1;
             }
         }
     });
+    replaced
 }
 
 /// Whether no variable is free in the term at this place.

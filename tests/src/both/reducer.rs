@@ -1,12 +1,12 @@
 //! Run reducer.
 
 use super::same;
-use crate::calls::{self, Ran};
+use crate::calls::{self, Reduced};
 use crate::codec::hex;
 use crate::lent::Lent;
 use crate::library;
 
-pub fn run_reducer(buf: &mut [u8], used: usize, budget: u32) -> Ran {
+pub fn run_reducer(buf: &mut [u8], used: usize, budget: u32) -> Reduced {
     let before = buf.to_vec();
     let case = || {
         let buf = hex(&before);

@@ -1,7 +1,7 @@
 //! Translate, read back, substitute, result.
 
 use super::same;
-use crate::calls::{self, Written};
+use crate::calls::{self, Substituted, Written};
 use crate::codec::hex;
 use crate::lent::Lent;
 use crate::library;
@@ -30,7 +30,7 @@ pub fn read_back(src: &[u8], used: usize, out: &mut [u8]) -> Written {
     answer
 }
 
-pub fn substitute(buf: &mut [u8], used: usize, store: &[u32]) -> Written {
+pub fn substitute(buf: &mut [u8], used: usize, store: &[u32]) -> Substituted {
     let before = buf.to_vec();
     let case = || {
         let buf = hex(&before);

@@ -1,4 +1,4 @@
-//! What a run of either engine returns.
+//! What a run of either engine returns; the reducer's has a count behind it.
 
 use crate::calls;
 

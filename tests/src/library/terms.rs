@@ -9,6 +9,13 @@ struct Written {
     used: u32,
 }
 
+#[repr(C)]
+struct Substituted {
+    number: u32,
+    used: u32,
+    replaced: u32,
+}
+
 extern "C" {
     fn vistrokk_translate(
         src: *const u8,
@@ -30,7 +37,7 @@ extern "C" {
         used: usize,
         store: *const u32,
         store_len: usize,
-    ) -> Written;
+    ) -> Substituted;
     fn vistrokk_result(
         buf: *const u8,
         buf_len: usize,
@@ -46,6 +53,16 @@ impl From<Written> for calls::Written {
     }
 }
 
+impl From<Substituted> for calls::Substituted {
+    fn from(substituted: Substituted) -> calls::Substituted {
+        calls::Substituted {
+            number: substituted.number,
+            used: substituted.used,
+            replaced: substituted.replaced,
+        }
+    }
+}
+
 pub fn translate(src: &[u8], used: usize, out: &mut [u8]) -> calls::Written {
     let (from, to) = (start(src), start_mut(out));
     unsafe { vistrokk_translate(from, src.len(), used, to, out.len()) }.into()
@@ -56,7 +73,7 @@ pub fn read_back(src: &[u8], used: usize, out: &mut [u8]) -> calls::Written {
     unsafe { vistrokk_read_back(from, src.len(), used, to, out.len()) }.into()
 }
 
-pub fn substitute(buf: &mut [u8], used: usize, store: &[u32]) -> calls::Written {
+pub fn substitute(buf: &mut [u8], used: usize, store: &[u32]) -> calls::Substituted {
     let (at, values) = (start_mut(buf), start(store));
     unsafe { vistrokk_substitute(at, buf.len(), used, values, store.len()) }.into()
 }

@@ -5,24 +5,42 @@ use crate::run::{Answer, Machine};
 use crate::substitute::{substitute, values_of, Values};
 use crate::tree::{Atom, Simple, Term, TermRecord, Value, Variable};
 
+/// One reduction: what stands in place of the redex, and how many variables it turned into numerals
+/// (02, C-13).
+pub struct Reduction {
+    contracted: Term,
+    pub replaced: u32,
+}
+
+impl Reduction {
+    /// Succ, pred and rec substitute nothing.
+    fn without_substitution(contracted: Term) -> Reduction {
+        let replaced = 0;
+        Reduction {
+            contracted,
+            replaced,
+        }
+    }
+}
+
 impl Machine for TermRecord {
-    /// What stands in place of the redex.
-    type Change = Term;
+    type Change = Reduction;
 
     fn state_len(&self) -> usize {
         self.encoded_len()
     }
 
-    fn next(&self) -> Answer<Term> {
+    fn next(&self) -> Answer<Reduction> {
         contract(redex(&self.term))
     }
 
-    fn lengths(&self, contracted: &Term) -> (usize, usize) {
-        (term_len(redex(&self.term)), term_len(contracted))
+    fn lengths(&self, reduction: &Reduction) -> (usize, usize) {
+        let removed = term_len(redex(&self.term));
+        (removed, term_len(&reduction.contracted))
     }
 
-    fn apply(&mut self, contracted: Term) {
-        *redex_mut(&mut self.term) = contracted;
+    fn apply(&mut self, reduction: Reduction) {
+        *redex_mut(&mut self.term) = reduction.contracted;
     }
 }
 
@@ -59,7 +77,7 @@ fn redex_mut(term: &mut Term) -> &mut Term {
 }
 
 /// One reduction at its place. A tuple is finished.
-fn contract(term: &Term) -> Answer<Term> {
+fn contract(term: &Term) -> Answer<Reduction> {
     match term {
         Term::Tuple(_) => Answer::Finished,
         Term::LetOne(variable, simple, last) => let_one(*variable, simple, last),
@@ -68,20 +86,24 @@ fn contract(term: &Term) -> Answer<Term> {
             _ => unreachable!("the redex lies deeper"),
         },
         Term::Rec(index, count, start, body) => {
-            Answer::Next(unroll(*index, numeral(count), start, body))
+            let unrolled = unroll(*index, numeral(count), start, body);
+            Answer::Next(Reduction::without_substitution(unrolled))
         }
     }
 }
 
-fn substituted(last: &Term, values: &Values) -> Term {
-    let mut term = last.clone();
-    substitute(&mut term, values);
-    term
+fn substituted(last: &Term, values: &Values) -> Reduction {
+    let mut contracted = last.clone();
+    let replaced = substitute(&mut contracted, values);
+    Reduction {
+        contracted,
+        replaced,
+    }
 }
 
 /// Of a numeral: the last term with that variable substituted. Of succ or pred: that becomes the
 /// numeral, which is a reduction of its own.
-fn let_one(variable: Variable, simple: &Simple, last: &Term) -> Answer<Term> {
+fn let_one(variable: Variable, simple: &Simple, last: &Term) -> Answer<Reduction> {
     let computed = match simple {
         Simple::Atom(atom) => {
             let only = Values::from([(variable, numeral(atom))]);
@@ -94,7 +116,8 @@ fn let_one(variable: Variable, simple: &Simple, last: &Term) -> Answer<Term> {
         None => Answer::Over,
         Some(value) => {
             let simple = Simple::Atom(Atom::Numeral(value));
-            Answer::Next(Term::LetOne(variable, simple, Box::new(last.clone())))
+            let computed = Term::LetOne(variable, simple, Box::new(last.clone()));
+            Answer::Next(Reduction::without_substitution(computed))
         }
     }
 }

@@ -121,8 +121,12 @@ mod reducer {
             name: "run_reducer",
             limit: 2_048,
             records: closed_records,
-            library: |s| library::run_reducer(&mut s.buffer, s.used, BUDGET).number,
-            other: |s| calls::run_reducer(&mut s.buffer, s.used, BUDGET).number,
+            library: |s| {
+                library::run_reducer(&mut s.buffer, s.used, BUDGET)
+                    .ran
+                    .number
+            },
+            other: |s| calls::run_reducer(&mut s.buffer, s.used, BUDGET).ran.number,
         }]
     }
 }

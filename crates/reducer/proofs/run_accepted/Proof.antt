@@ -9,14 +9,14 @@ use Rattle.rules.specs.Syntax.{Term}
 use Rattle.record.specs.declared.Header.{Header}
 use Rattle.record.specs.Header.{contentsAt, largestOf}
 use Rattle.reducing.specs.State.{Stands}
-use Rattle.reducer.proofs.RunningLaws.{Between, accepted-stands, between-ends, between-left, between-on, between-ready, between-start, between-sums, looked}
+use Rattle.reducer.proofs.RunningLaws.{Between, accepted-stands, between-ends, between-fits, between-left, between-on, between-ready, between-start, between-sums, looked}
 
 abbrev Inv-loop : tie.InvT-loop
-Inv-loop buf₀ used budget k contents largest room size₀ tally₀ buf size tally =
-    ((hd : Header) (t : Term) → hd .k ≡ k → contentsAt hd ≡ contents → largest ≡ largestOf hd → Stands hd t buf₀ used → Between hd t room budget tally buf size) × (length buf ≡ room)
+Inv-loop buf₀ used budget k contents largest room size₀ replaced₀ tally₀ buf size replaced tally =
+    ((hd : Header) (t : Term) → hd .k ≡ k → contentsAt hd ≡ contents → largest ≡ largestOf hd → Stands hd t buf₀ used → Between hd t room budget tally replaced buf size) × (length buf ≡ room)
 
 abbrev μ-loop : tie.MeasureT-loop
-μ-loop buf₀ used budget k contents largest room size₀ tally₀ buf size tally = tally .left
+μ-loop buf₀ used budget k contents largest room size₀ replaced₀ tally₀ buf size replaced tally = tally .left
 
 contents-at-requires : tie.Need-contents-at-requires Inv-loop μ-loop
 contents-at-requires c κs = tt
@@ -72,13 +72,21 @@ returns c =
     let es = sym (c .before .before .before .before .before .before .before .before .before .before .before .before .before .contents-at .ensures) in
     let b = c .before .before .before .before .before .before .loop .inv .0 (c .before .before .before .before .before .before .before .before .before .before .before .before .before .before .before .args .h) t refl es (c .before .before .before .before .before .before .before .before .before .before .before .before .largest .ensures) (accepted-stands h _ (c .before .before .before .before .before .before .before .before .before .before .zero .ensures)) in
     between-ends b (c .before .before .before .before .before .before .loop .inv .1) (c .before .before .before .before .look .result) (looked (c .before .before .before .before .before .before .before .before .before .before .before .before .before .before .before .args .h) _ _ (b .term) _ es (c .before .before .before .before .before .before .before .before .before .before .before .before .largest .ensures) (c .before .before .before .before .look .ensures (c .before .before .before .before .before .before .before .before .before .before .before .before .before .before .before .args .h) (b .term) _ (b .stands .holds) refl es)) (c .before .before .before .outcome-of .result) (c .before .before .before .outcome-of .ensures)
-    (sym (c .before .before .ends .ensures) ∙ c .before .if1 .taken) (c .answer .result) (c .answer .ensures)
+    (sym (c .before .before .ends .ensures) ∙ c .before .if1 .taken) (record { end = c .answer .result; replaced = c .before .before .before .before .before .before .loop .replaced }) (c .answer .ensures) refl
 
 perform-requires : tie.Need-perform-requires Inv-loop μ-loop
 perform-requires c κs =
     let es = sym (c .before .before .before .before .before .before .before .before .before .before .before .before .before .contents-at .ensures) in
     let b = c .before .before .before .before .before .before .loop .inv .0 (c .before .before .before .before .before .before .before .before .before .before .before .before .before .before .before .args .h) (c .before .before .before .before .before .before .before .before .before .before .before .before .before .before .before .pre .0) refl es (c .before .before .before .before .before .before .before .before .before .before .before .before .largest .ensures) (accepted-stands (c .before .before .before .before .before .before .before .before .before .before .before .before .before .before .before .pre .1) _ (c .before .before .before .before .before .before .before .before .before .before .zero .ensures)) in
     (c .before .before .before .before .before .before .before .before .before .before .before .before .before .before .before .args .h, (b .term, (between-ready b (c .before .before .before .before .before .before .loop .inv .1) (c .before .before .before .before .look .result) (looked (c .before .before .before .before .before .before .before .before .before .before .before .before .before .before .before .args .h) _ _ (b .term) _ es (c .before .before .before .before .before .before .before .before .before .before .before .before .largest .ensures) (c .before .before .before .before .look .ensures (c .before .before .before .before .before .before .before .before .before .before .before .before .before .before .before .args .h) (b .term) _ (b .stands .holds) refl es)) (c .before .before .before .outcome-of .result) (c .before .before .before .outcome-of .ensures) (sym (c .before .before .ends .ensures) ∙ c .before .if1 .left), (refl, es))))
+
+add-replaced : tie.Need-add-replaced Inv-loop μ-loop
+add-replaced c =
+    let es = sym (c .before .before .before .before .before .before .before .before .before .before .before .before .before .before .before .before .contents-at .ensures) in
+    let b = c .before .before .before .before .before .before .before .before .before .loop .inv .0 (c .before .before .before .before .before .before .before .before .before .before .before .before .before .before .before .before .before .before .args .h) (c .before .before .before .before .before .before .before .before .before .before .before .before .before .before .before .before .before .before .pre .0) refl es (c .before .before .before .before .before .before .before .before .before .before .before .before .before .before .before .largest .ensures) (accepted-stands (c .before .before .before .before .before .before .before .before .before .before .before .before .before .before .before .before .before .before .pre .1) _ (c .before .before .before .before .before .before .before .before .before .before .before .before .before .zero .ensures)) in
+    let e = looked (c .before .before .before .before .before .before .before .before .before .before .before .before .before .before .before .before .before .before .args .h) _ _ (b .term) _ es (c .before .before .before .before .before .before .before .before .before .before .before .before .before .before .before .largest .ensures) (c .before .before .before .before .before .before .before .look .ensures (c .before .before .before .before .before .before .before .before .before .before .before .before .before .before .before .before .before .before .args .h) (b .term) _ (b .stands .holds) refl es) in
+    let fits = between-fits b (c .before .before .before .before .before .before .before .before .before .loop .inv .1) (c .before .before .before .before .before .before .before .look .result) e (c .before .before .before .before .before .before .outcome-of .result) (c .before .before .before .before .before .before .outcome-of .ensures) (sym (c .before .before .before .before .before .ends .ensures) ∙ c .before .before .before .before .if1 .left) (omega (arith, c .before .before .before .before .before .before .before .before .before .before .before .before .before .before .before .before .before .before .fits .budget)) (c .before .before .perform .result .replaced) (c .before .before .perform .ensures (c .before .before .before .before .before .before .before .before .before .before .before .before .before .before .before .before .before .before .args .h) (b .term) (b .stands) e refl es .replaces) in
+    omega (arith, fits)
 
 advance-requires : tie.Need-advance-requires Inv-loop μ-loop
 advance-requires c κs =
@@ -99,7 +107,7 @@ loop-again c = (
   (λ hd t ek es el h.
       let b = c .before .before .before .before .before .before .before .before .before .before .loop .inv .0 hd t ek es el h in
       let e = looked hd _ _ (b .term) _ es el (c .before .before .before .before .before .before .before .before .look .ensures hd (b .term) _ (b .stands .holds) ek es) in
-      between-on b (c .before .before .before .before .before .before .before .before .before .before .loop .inv .1) (c .before .before .before .before .before .before .before .before .look .result) e (c .before .before .before .before .before .before .before .outcome-of .result) (c .before .before .before .before .before .before .before .outcome-of .ensures) (sym (c .before .before .before .before .before .before .ends .ensures) ∙ c .before .before .before .before .before .if1 .left) _ _ (c .before .before .before .perform .ensures hd (b .term) (b .stands) e ek es) (c .before .before .before .perform .kept .0) _ (c .advance .ensures)),
+      between-on b (c .before .before .before .before .before .before .before .before .before .before .loop .inv .1) (c .before .before .before .before .before .before .before .before .look .result) e (c .before .before .before .before .before .before .before .outcome-of .result) (c .before .before .before .before .before .before .before .outcome-of .ensures) (sym (c .before .before .before .before .before .before .ends .ensures) ∙ c .before .before .before .before .before .if1 .left) _ _ _ (c .before .before .before .perform .ensures hd (b .term) (b .stands) e ek es) (c .before .before .before .perform .kept .0) _ (c .advance .ensures)),
   c .before .before .before .perform .kept .0 ∙ c .before .before .before .before .before .before .before .before .before .before .loop .inv .1,
 )
 
@@ -123,6 +131,7 @@ run-accepted-spec =
     same-length
     returns
     perform-requires
+    add-replaced
     advance-requires
     loop-less
     loop-again)

@@ -54,46 +54,46 @@ unroll-requires c κs =
 
 returns : tie.Need-returns
 returns c =
-    edited-by (c .before .before .before .args .k) (c .before .before .before .args .used) (c .before .before .before .args .p) (c .before .before .before .args .buf .now) _ Finished (c .enum-told .given .1) refl
+    edited-by (c .before .before .before .args .k) (c .before .before .before .args .used) (c .before .before .before .args .p) (c .before .before .before .args .buf .now) _ _ Finished (c .enum-told .given .1) (refl, refl)
 
 returns-2 : tie.Need-returns-2
 returns-2 c =
-    edited-by (c .before .before .before .args .k) (c .before .before .before .args .used) (c .before .before .before .args .p) (c .before .before .before .args .buf .now) _ Over (c .enum-told2 .given .1) refl
+    edited-by (c .before .before .before .args .k) (c .before .before .before .args .used) (c .before .before .before .args .p) (c .before .before .before .args .buf .now) _ _ Over (c .enum-told2 .given .1) (refl, refl)
 
 same-length : tie.Need-same-length
 same-length c = search needs
 
 returns-3 : tie.Need-returns-3
 returns-3 c =
-    edited-by (c .before .before .before .before .before .before .before .args .k) (c .before .before .before .before .before .before .before .args .used) (c .before .before .before .before .before .before .before .args .p) (c .before .before .before .before .before .before .before .args .buf .now) _ Bind (c .before .before .before .before .enum-told3 .given .1) (c .before .before .let-one .ensures)
+    edited-by (c .before .before .before .before .before .before .before .args .k) (c .before .before .before .before .before .before .before .args .used) (c .before .before .before .before .before .before .before .args .p) (c .before .before .before .before .before .before .before .args .buf .now) _ _ Bind (c .before .before .before .before .enum-told3 .given .1) (c .before .before .let-one .ensures)
 
 same-length-2 : tie.Need-same-length-2
 same-length-2 c = search needs
 
 returns-4 : tie.Need-returns-4
 returns-4 c =
-    edited-by (c .before .before .before .before .before .before .before .args .k) (c .before .before .before .before .before .before .before .args .used) (c .before .before .before .before .before .before .before .args .p) (c .before .before .before .before .before .before .before .args .buf .now) _ Evaluate (c .before .before .before .before .enum-told4 .given .1) (c .before .before .set-numeral .ensures)
+    edited-by (c .before .before .before .before .before .before .before .args .k) (c .before .before .before .before .before .before .before .args .used) (c .before .before .before .before .before .before .before .args .p) (c .before .before .before .before .before .before .before .args .buf .now) _ _ Evaluate (c .before .before .before .before .enum-told4 .given .1) (c .before .before .set-numeral .ensures, refl)
 
 same-length-3 : tie.Need-same-length-3
 same-length-3 c = search needs
 
 returns-5 : tie.Need-returns-5
 returns-5 c =
-    edited-by (c .before .before .before .before .before .before .before .args .k) (c .before .before .before .before .before .before .before .args .used) (c .before .before .before .before .before .before .before .args .p) (c .before .before .before .before .before .before .before .args .buf .now) _ Leave (c .before .before .before .before .enum-told5 .given .1) (c .before .before .let-all .ensures)
+    edited-by (c .before .before .before .before .before .before .before .args .k) (c .before .before .before .before .before .before .before .args .used) (c .before .before .before .before .before .before .before .args .p) (c .before .before .before .before .before .before .before .args .buf .now) _ _ Leave (c .before .before .before .before .enum-told5 .given .1) (c .before .before .let-all .ensures)
 
 same-length-4 : tie.Need-same-length-4
 same-length-4 c = search needs
 
 returns-6 : tie.Need-returns-6
 returns-6 c =
-    edited-by (c .before .before .before .before .before .before .before .args .k) (c .before .before .before .before .before .before .before .args .used) (c .before .before .before .before .before .before .before .args .p) (c .before .before .before .before .before .before .before .args .buf .now) _ Stop (c .before .before .before .before .enum-told6 .given .1) (c .before .before .stop .ensures)
+    edited-by (c .before .before .before .before .before .before .before .args .k) (c .before .before .before .before .before .before .before .args .used) (c .before .before .before .before .before .before .before .args .p) (c .before .before .before .before .before .before .before .args .buf .now) _ _ Stop (c .before .before .before .before .enum-told6 .given .1) (c .before .before .stop .ensures, refl)
 
 same-length-5 : tie.Need-same-length-5
 same-length-5 c = search needs
 
 returns-7 : tie.Need-returns-7
 returns-7 c =
-    edited-by (c .before .before .before .before .before .before .before .args .k) (c .before .before .before .before .before .before .before .args .used) (c .before .before .before .before .before .before .before .args .p) (c .before .before .before .before .before .before .before .args .buf .now) _ Unroll (c .before .before .before .before .enum-told7 .given .1) (c .before .before .unroll .ensures)
+    edited-by (c .before .before .before .before .before .before .before .args .k) (c .before .before .before .before .before .before .before .args .used) (c .before .before .before .before .before .before .before .args .p) (c .before .before .before .before .before .before .before .args .buf .now) _ _ Unroll (c .before .before .before .before .enum-told7 .given .1) (c .before .before .unroll .ensures, refl)
 
 pub edit-spec : {M : Type 1} → statement M
 edit-spec =

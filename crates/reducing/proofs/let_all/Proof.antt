@@ -24,7 +24,7 @@ same-length c = search needs
 
 returns : tie.Need-returns
 returns c =
-    λ vs u s r. filled-is (c .before .before .before .before .before .before .before .before .before .before .before .args .buf .now) _ _ (c .before .before .before .before .before .before .before .before .before .before .before .args .at) (c .before .before .before .before .before .before .before .before .before .before .before .args .n) (c .before .before .before .before .before .before .before .before .before .before .before .args .used) _ _ u (c .before .before .before .before .before .before .before .before .from-tuple .ensures .1 vs s) (c .before .before .before .before .before .before .substitute-at .ensures u r) (c .before .before .remove .ensures)
+    λ vs u s r. filled-is (c .before .before .before .before .before .before .before .before .before .before .before .args .buf .now) _ _ (c .before .before .before .before .before .before .before .before .before .before .before .args .at) (c .before .before .before .before .before .before .before .before .before .before .before .args .n) (c .before .before .before .before .before .before .before .before .before .before .before .args .used) _ _ _ u (c .before .before .before .before .before .before .before .before .from-tuple .ensures .1 vs s) (c .before .before .before .before .before .before .substitute-at .ensures u r) (c .before .before .remove .ensures)
 
 pub let-all-spec : {M : Type 1} → statement M
 let-all-spec =

@@ -21,7 +21,7 @@ same-length c = search needs
 
 returns : tie.Need-returns
 returns c =
-    λ u r. filled-is (c .before .before .before .before .before .before .before .before .before .before .args .buf .now) _ _ (c .before .before .before .before .before .before .before .before .before .before .args .at) 16 (c .before .before .before .before .before .before .before .before .before .before .args .used) _ _ u (c .before .before .before .before .before .before .before .only .ensures .1) (c .before .before .before .before .before .before .substitute-at .ensures u r) (c .before .before .remove .ensures)
+    λ u r. filled-is (c .before .before .before .before .before .before .before .before .before .before .args .buf .now) _ _ (c .before .before .before .before .before .before .before .before .before .before .args .at) 16 (c .before .before .before .before .before .before .before .before .before .before .args .used) _ _ _ u (c .before .before .before .before .before .before .before .only .ensures .1) (c .before .before .before .before .before .before .substitute-at .ensures u r) (c .before .before .remove .ensures)
 
 pub let-one-spec : {M : Type 1} → statement M
 let-one-spec =

@@ -18,14 +18,14 @@ relength-requires c κs =
     let f = ready-fits (c .before .before .before .before .before .before .args .p) (c .before .before .before .before .before .before .pre .1 .1 .0) (c .before .before .before .before .before .before .pre .1 .1 .1 .0) q in
     omega (arith, c .before .before .before .edit .kept .0)
 
-add-result : tie.Need-add-result
-add-result c =
+add-t12 : tie.Need-add-t12
+add-t12 c =
     let h = c .before .before .before .before .before .before .before .before .before .before .pre .1 .1 .0 in
     let f = ready-fits (c .before .before .before .before .before .before .before .before .before .before .args .p) h (c .before .before .before .before .before .before .before .before .before .before .pre .1 .1 .1 .0) (c .before .before .before .before .before .before .before .before .before .before .pre .1 .1 .1 .1) in
     omega (arith, h .stands .short, h .stands .holds .within)
 
-sub-result : tie.Need-sub-result
-sub-result c =
+sub-t13 : tie.Need-sub-t13
+sub-t13 c =
     let h = c .before .before .before .before .before .before .before .before .before .before .before .pre .1 .1 .0 in
     let f = ready-fits (c .before .before .before .before .before .before .before .before .before .before .before .args .p) h (c .before .before .before .before .before .before .before .before .before .before .before .pre .1 .1 .1 .0) (c .before .before .before .before .before .before .before .before .before .before .before .pre .1 .1 .1 .1) in
     omega (arith, h .stands .short, h .stands .holds .within)
@@ -36,8 +36,8 @@ same-length c = search needs
 returns : tie.Need-returns
 returns c =
     let g = c .before .before .before .before .before .before .before .before .before .before .before .pre .1 .1 .0 in
-    λ hd t h e is-k q. performs h _ _ is-k q (c .before .before .before .before .before .before .before .before .before .before .before .args .p) e (g .moves) (g .fits) _ _ (c .before .before .before .before .before .before .before .before .edit .ensures) (c .before .before .before .before .relength .ensures)
+    λ hd t h e is-k q. performs h _ _ is-k q (c .before .before .before .before .before .before .before .before .before .before .before .args .p) e (g .moves) (g .fits) _ _ _ (c .before .before .before .before .before .before .before .before .edit .ensures) (c .before .before .before .before .relength .ensures)
 
 pub perform-spec : {M : Type 1} → statement M
 perform-spec =
-    tie.close (tie.spec edit-requires relength-requires add-result sub-result same-length returns)
+    tie.close (tie.spec edit-requires relength-requires add-t12 sub-t13 same-length returns)

@@ -6,7 +6,7 @@ use native.Mathlib.Omega.{arith}
 use mathlib.Core.Path.{_∙_}
 use Rattle.report.proofs.LineLaws.{runs-answer}
 use Rattle.report.specs.Line.{programBudget, programBuffer, valuesIn}
-use Rattle.term.specs.Answer.{asWrote}
+use Rattle.term.specs.Answer.{asSubstituted}
 use Rattle.run.specs.Represents.{asRunAnswer}
 use lib.ListN.{length}
 
@@ -45,7 +45,7 @@ unfolding programBudget
 returns c = (
   c .before .before .put-ran .ensures .0
       ∙ runs-answer (c .before .before .before .before .before .before .before .before .before .before .before .before .before .before .before .before .before .before .before .before .before .before .before .before .before .before .before .before .before .before .args .a .now) (c .before .before .before .before .before .before .before .before .before .before .before .before .before .before .before .before .before .before .before .before .before .before .before .before .before .before .before .before .before .before .args .said) (c .before .before .before .before .before .before .before .before .before .before .before .before .before .before .before .before .before .before .before .before .before .before .before .before .before .before .before .before .before .before .args .b .now) (c .before .before .before .before .before .before .before .before .before .before .before .before .before .before .before .before .before .before .before .before .before .before .before .before .before .before .before .before .before .before .args .used) (valuesIn (length (c .before .before .before .before .before .before .before .before .before .before .before .before .before .before .before .before .before .before .before .before .before .before .before .before .before .before .before .before .before .before .args .store .now)) (c .before .before .before .before .before .before .before .before .before .before .before .before .before .before .before .before .before .before .before .before .before .before .before .before .before .before .before .before .before .before .args .behind .now)) (c .before .before .before .before .before .before .before .before .before .before .before .before .before .before .before .before .before .before .before .before .before .before .before .before .read-values .last .1 .0) (c .before .before .before .before .before .before .before .before .before .before .before .before .before .before .run-stepper .last .1 .1 .0)
-      (asWrote (c .before .before .before .before .before .before .before .before .before .before .before .before .before .before .before .before .before .before .before .substitute .result) (c .before .before .before .before .before .before .before .before .before .before .before .before .before .before .before .before .before .before .before .substitute .last .0)) (asRunAnswer (c .before .before .before .before .before .before .before .before .before .before .before .before .before .before .run-stepper .result)) (asRunAnswer (c .before .before .before .before .before .before .before .run-reducer .result))
+      (asSubstituted (c .before .before .before .before .before .before .before .before .before .before .before .before .before .before .before .before .before .before .before .substitute .result) (c .before .before .before .before .before .before .before .before .before .before .before .before .before .before .before .before .before .before .before .substitute .last .0)) (asRunAnswer (c .before .before .before .before .before .before .before .before .before .before .before .before .before .before .run-stepper .result)) (asRunAnswer (c .before .before .before .before .before .before .before .run-reducer .result .end))
       (c .before .before .before .before .before .before .before .before .before .before .before .before .before .before .before .before .before .before .before .before .before .before .before .before .read-values .ensures) (c .before .before .before .before .before .before .before .before .before .before .before .before .before .before .before .before .before .before .before .substitute .ensures) (c .before .before .before .before .before .before .before .before .before .before .before .before .before .before .run-stepper .ensures .0) (c .before .before .before .before .before .before .before .before .before .before .before .before .before .before .run-stepper .ensures .2) (c .before .before .before .before .before .before .before .run-reducer .ensures .0),
   omega (arith, c .before .before .before .before .before .before .before .before .before .before .before .before .before .before .before .before .before .before .before .before .before .before .before .before .before .before .before .before .before .before .pre .1, c .before .before .put-ran .ensures .1, c .before .before .before .before .before .before .before .before .before .before .before .before .before .before .before .before .before .before .before .before .before .before .before .before .read-values .kept .1 .0, c .before .before .before .before .before .before .before .before .before .before .before .before .before .before .run-stepper .kept .1 .1 .0),
 )

@@ -1,4 +1,5 @@
--- Invariant: what is left to do of the term at p, done to the present bytes, gives what was to be done at first.
+-- Invariant: what is left to do of the term at p, done to the present bytes, gives what was to be done at first, and so with
+-- the count of what is replaced.
 use Rattle.substitution.proofs.substitute.substitute_at.Statement.{statement}
 use Rattle.substitution.proofs.substitute.substitute_at.Tie as tie
 use mathlib.Core.Path.{_≡_, refl, sym, _∙_}
@@ -9,21 +10,22 @@ use borrow.Author.Needs.{needs}
 use Rattle.buffer.specs.Slice.{put}
 use Rattle.record.specs.Term.{encodeTermRecord}
 use Rattle.rules.specs.FreeVariables.{atomOfSimple}
+use Rattle.rules.specs.Replaced.{replaced as replacedOf}
 use Rattle.rules.specs.Substitution.{substitute}
 use Rattle.rules.specs.Syntax.{Term}
 use Rattle.substitution.specs.Ranged.{RangedTerm}
 use Rattle.numerals.specs.Values.{substitutionOf}
 use Rattle.substitution.proofs.AtomSubstitutionLaws.{atom-room}
 use Rattle.substitution.proofs.RangedLaws.{else-rec, ranged-letAll, ranged-letOne, ranged-room, ranged-tuple, letOne-atom}
-use Rattle.substitution.proofs.SubstituteAtLaws.{Todo, letAll-next, letOne-next, rec-next, todo-begin, tuple-done}
+use Rattle.substitution.proofs.SubstituteAtLaws.{Todo, letAll-next, letOne-most, letOne-next, rec-most, rec-next, replaced-room, todo-begin, tuple-done}
 
 abbrev Inv-loop : tie.InvT-loop
-Inv-loop buf₀ at k values₀ p₀ buf values p =
+Inv-loop buf₀ at k values₀ replaced₀ p₀ buf values replaced p =
     (length values ≡ 17) × (length buf ≡ length buf₀)
-    × ((t : Term) → RangedTerm buf₀ at k t → Todo values buf p k (put buf₀ at (encodeTermRecord (substitute (substitutionOf values₀) t))))
+    × ((t : Term) → RangedTerm buf₀ at k t → Todo values buf p k (put buf₀ at (encodeTermRecord (substitute (substitutionOf values₀) t))) replaced (replacedOf (substitutionOf values₀) t))
 
 abbrev μ-loop : tie.MeasureT-loop
-μ-loop buf₀ at k values₀ p₀ buf values p = length buf₀ - p
+μ-loop buf₀ at k values₀ replaced₀ p₀ buf values replaced p = length buf₀ - p
 
 loop-holds : tie.Need-loop-holds Inv-loop μ-loop
 loop-holds c = (c .before .pre .1, refl, λ t h. todo-begin h)
@@ -45,6 +47,13 @@ substitute-atoms-requires c κs =
     let v = ranged-tuple (c .before .before .before .before .before .loop .inv .2 (c .before .before .before .before .before .before .before .pre .0 .0) (c .before .before .before .before .before .before .before .pre .0 .1) .here) (sym (c .before .before .before .get-u16 .ensures .0) ∙ c .before .before .match .keys1) in
     ((v .view .atoms, v .row), c .before .before .before .before .before .loop .inv .0)
 
+add-result : tie.Need-add-result Inv-loop μ-loop
+add-result c =
+    let s = c .before .before .before .before .before .before .before .before .loop .inv .2 (c .before .before .before .before .before .before .before .before .before .before .pre .0 .0) (c .before .before .before .before .before .before .before .before .before .before .pre .0 .1) in
+    let v = ranged-tuple (s .here) (sym (c .before .before .before .before .before .before .get-u16 .ensures .0) ∙ c .before .before .before .before .before .match .keys1) in
+    let sum = tuple-done s v _ _ (c .before .before .substitute-atoms .ensures (v .view .atoms) (v .row)) .1 in
+    omega (arith, sum, replaced-room (c .before .before .before .before .before .before .before .before .before .before .args .values) (c .before .before .before .before .before .before .before .before .before .before .pre .0 .1))
+
 same-length : tie.Need-same-length Inv-loop μ-loop
 same-length c =
     c .before .before .substitute-atoms .kept .0 ∙ c .before .before .before .before .before .before .before .before .loop .inv .1
@@ -54,7 +63,7 @@ returns c =
     λ t h.
     let s = c .before .before .before .before .before .before .before .before .loop .inv .2 t h in
     let v = ranged-tuple (s .here) (sym (c .before .before .before .before .before .before .get-u16 .ensures .0) ∙ c .before .before .before .before .before .match .keys1) in
-    tuple-done s v _ (c .before .before .substitute-atoms .ensures (v .view .atoms) (v .row))
+    tuple-done s v _ _ (c .before .before .substitute-atoms .ensures (v .view .atoms) (v .row))
 
 add-get-u32 : tie.Need-add-get-u32 Inv-loop μ-loop
 add-get-u32 c =
@@ -78,6 +87,13 @@ substitute-atom-requires : tie.Need-substitute-atom-requires Inv-loop μ-loop
 substitute-atom-requires c κs =
     let v = ranged-letOne (c .before .before .before .before .before .before .before .before .before .loop .inv .2 (c .before .before .before .before .before .before .before .before .before .before .before .pre .0 .0) (c .before .before .before .before .before .before .before .before .before .before .before .pre .0 .1) .here) (sym (c .before .before .before .before .before .before .before .get-u16 .ensures .0) ∙ c .before .before .before .before .before .before .match .keys2) in
     ((atomOfSimple (v .view .bound), letOne-atom v _ (c .before .before .bound-atom .ensures)), c .before .before .before .before .before .before .before .before .before .loop .inv .0)
+
+add-replaced : tie.Need-add-replaced Inv-loop μ-loop
+add-replaced c =
+    let s = c .before .before .before .before .before .before .before .before .before .before .before .before .loop .inv .2 (c .before .before .before .before .before .before .before .before .before .before .before .before .before .before .pre .0 .0) (c .before .before .before .before .before .before .before .before .before .before .before .before .before .before .pre .0 .1) in
+    let v = ranged-letOne (s .here) (sym (c .before .before .before .before .before .before .before .before .before .before .get-u16 .ensures .0) ∙ c .before .before .before .before .before .before .before .before .before .match .keys2) in
+    let sum = letOne-most s v (c .before .before .before .before .before .before .before .before .before .before .before .before .loop .inv .0) _ _ (c .before .before .before .before .before .bound-atom .ensures) (λ a h. c .before .before .substitute-atom .ensures a h .1) in
+    omega (arith, sum, replaced-room (c .before .before .before .before .before .before .before .before .before .before .before .before .before .before .args .values) (c .before .before .before .before .before .before .before .before .before .before .before .before .before .before .pre .0 .1))
 
 mul-values : tie.Need-mul-values Inv-loop μ-loop
 mul-values c =
@@ -106,7 +122,7 @@ loop-again c = (
   λ t h.
       let s = c .before .before .before .before .before .before .before .before .before .before .before .before .loop .inv .2 t h in
       let v = ranged-letOne (s .here) (sym (c .before .before .before .before .before .before .before .before .before .before .get-u16 .ensures .0) ∙ c .before .before .before .before .before .before .before .before .before .match .keys2) in
-      letOne-next s v (c .before .before .before .before .before .before .before .before .before .before .before .before .loop .inv .0) _ (c .before .before .before .before .before .before .before .get-u32 .ensures) _ (c .before .before .before .before .before .bound-atom .ensures) _ (c .before .before .substitute-atom .ensures),
+      letOne-next s v (c .before .before .before .before .before .before .before .before .before .before .before .before .loop .inv .0) _ _ (c .before .before .before .before .before .bound-atom .ensures) _ (c .before .before .before .before .before .before .before .get-u32 .ensures) _ (c .before .before .substitute-atom .ensures),
 )
 
 add-p-2 : tie.Need-add-p-2 Inv-loop μ-loop
@@ -135,6 +151,13 @@ substitute-atom-requires-2 c κs =
     let v = else-rec (c .before .before .before .before .before .loop .inv .2 (c .before .before .before .before .before .before .before .pre .0 .0) (c .before .before .before .before .before .before .before .pre .0 .1) .here) _ (c .before .before .before .get-u16 .ensures .0) (c .before .before .match .rest .0 .0 .1) (c .before .before .match .rest .0 .1) (c .before .before .match .rest .1) in
     ((v .view .count, v .count), c .before .before .before .before .before .loop .inv .0)
 
+add-replaced-2 : tie.Need-add-replaced-2 Inv-loop μ-loop
+add-replaced-2 c =
+    let s = c .before .before .before .before .before .before .before .before .loop .inv .2 (c .before .before .before .before .before .before .before .before .before .before .pre .0 .0) (c .before .before .before .before .before .before .before .before .before .before .pre .0 .1) in
+    let v = else-rec (s .here) _ (c .before .before .before .before .before .before .get-u16 .ensures .0) (c .before .before .before .before .before .match .rest .0 .0 .1) (c .before .before .before .before .before .match .rest .0 .1) (c .before .before .before .before .before .match .rest .1) in
+    let sum = rec-most s v _ (c .before .before .substitute-atom2 .ensures (v .view .count) (v .count) .1) in
+    omega (arith, sum, replaced-room (c .before .before .before .before .before .before .before .before .before .before .args .values) (c .before .before .before .before .before .before .before .before .before .before .pre .0 .1))
+
 add-p-3 : tie.Need-add-p-3 Inv-loop μ-loop
 add-p-3 c =
     let v = else-rec (c .before .before .before .before .before .before .before .before .loop .inv .2 (c .before .before .before .before .before .before .before .before .before .before .pre .0 .0) (c .before .before .before .before .before .before .before .before .before .before .pre .0 .1) .here) _ (c .before .before .before .before .before .before .get-u16 .ensures .0) (c .before .before .before .before .before .match .rest .0 .0 .1) (c .before .before .before .before .before .match .rest .0 .1) (c .before .before .before .before .before .match .rest .1) in
@@ -154,7 +177,7 @@ loop-again-3 c = (
   λ t h.
       let s = c .before .before .before .before .before .before .before .before .loop .inv .2 t h in
       let v = else-rec (s .here) _ (c .before .before .before .before .before .before .get-u16 .ensures .0) (c .before .before .before .before .before .match .rest .0 .0 .1) (c .before .before .before .before .before .match .rest .0 .1) (c .before .before .before .before .before .match .rest .1) in
-      rec-next s v _ (c .before .before .substitute-atom2 .ensures (v .view .count) (v .count)),
+      rec-next s v _ _ (c .before .before .substitute-atom2 .ensures (v .view .count) (v .count)),
 )
 
 pub substitute-at-spec : {M : Type 1} → statement M
@@ -168,6 +191,7 @@ substitute-at-spec =
     get-u16-requires
     add-substitute-atoms
     substitute-atoms-requires
+    add-result
     same-length
     returns
     add-get-u32
@@ -175,6 +199,7 @@ substitute-at-spec =
     cast-x
     bound-atom-requires
     substitute-atom-requires
+    add-replaced
     mul-values
     array-write-values
     add-p
@@ -185,6 +210,7 @@ substitute-at-spec =
     loop-again-2
     add-substitute-atom
     substitute-atom-requires-2
+    add-replaced-2
     add-p-3
     loop-less-3
     loop-again-3)

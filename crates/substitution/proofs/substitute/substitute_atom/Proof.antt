@@ -56,7 +56,8 @@ returns : tie.Need-returns
 returns c =
     λ a h.
     let e = atom-stored h (c .before .before .before .before .before .before .before .before .before .before .before .before .before .before .before .before .args .values .now) _ (c .before .before .before .before .before .before .before .before .before .before .before .before .before .before .before .before .pre .1) (sym (c .before .before .before .before .before .before .before .before .before .before .before .before .before .get-u16 .ensures .0) ∙ c .before .before .before .before .before .before .before .before .before .before .before .before .if1 .taken) (ap (λ (x : ℕ). getD (c .before .before .before .before .before .before .before .before .before .before .before .before .before .before .before .before .args .values .now) x 0) (c .before .before .before .before .before .before .before .before .before .before .get-u32 .ensures)) (c .before .before .before .before .before .before .before .before .if2 .taken) in
-    cc
+    let bytes = e .0 in
+    (cc, e .1)
 
 same-length-2 : tie.Need-same-length-2
 same-length-2 c = search needs

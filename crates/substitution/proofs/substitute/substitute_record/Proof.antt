@@ -1,12 +1,14 @@
 -- The term behind the header, substituted, and the zeros behind the record: one law of the record layer.
 use borrow.Author.Needs.{needs}
-use native.Mathlib.Omega.{arith}
 use Rattle.substitution.proofs.substitute.substitute_record.Statement.{statement}
 use Rattle.substitution.proofs.substitute.substitute_record.Tie as tie
-use mathlib.Core.Path.{_∙_, ap₂}
+use native.Mathlib.Omega.{arith}
+use mathlib.Core.Path.{_≡_, _∙_, ap, ap₂}
 use Rattle.buffer.specs.Slice.{put}
 use Rattle.record.specs.Term.{encodeTermRecord}
 use Rattle.record.proofs.SizeLaws.{termSize-substitute}
+use Rattle.rules.specs.Replaced.{replaced}
+use Rattle.numerals.specs.Values.{substitutionOf}
 use Rattle.rules.specs.Substitution.{Substitution, fromStore, substitute}
 use Rattle.substitution.proofs.RangedLaws.{record-ranged}
 use Prim.Native.Nat.{ℕ}
@@ -36,8 +38,10 @@ returns : tie.Need-returns
 returns c =
     λ t h.
     let f : Substitution = fromStore (c .before .before .before .before .before .before .before .before .before .before .before .before .args .store .now) in
-    let e = c .before .before .before .before .before .before .substitute-at .ensures t (record-ranged h (c .before .before .before .before .before .before .before .before .before .before .before .before .pre .1) (c .before .before .before .before .before .before .before .before .contents-at .ensures)) ∙ ap₂ (λ (n : ℕ) (g : Substitution). put (c .before .before .before .before .before .before .before .before .before .before .before .before .args .buf .now) n (encodeTermRecord (substitute g t))) (c .before .before .before .before .before .before .before .before .contents-at .ensures) (c .before .before .before .before .before .before .before .from-store .ensures .1) in
-    c .before .before .zero .ensures ∙ term-put h (substitute f t) (termSize-substitute f t) _ e
+    let done = c .before .before .before .before .before .before .substitute-at .ensures t (record-ranged h (c .before .before .before .before .before .before .before .before .before .before .before .before .pre .1) (c .before .before .before .before .before .before .before .before .contents-at .ensures)) in
+    let same : substitutionOf (c .before .before .before .before .before .before .before .from-store .result) ≡ f = c .before .before .before .before .before .before .before .from-store .ensures .1 in
+    let e = done .0 ∙ ap₂ (λ (n : ℕ) (g : Substitution). put (c .before .before .before .before .before .before .before .before .before .before .before .before .args .buf .now) n (encodeTermRecord (substitute g t))) (c .before .before .before .before .before .before .before .before .contents-at .ensures) same in
+    (c .before .before .zero .ensures ∙ term-put h (substitute f t) (termSize-substitute f t) _ e, done .1 ∙ ap (λ (g : Substitution). replaced g t) same)
 
 pub substitute-record-spec : {M : Type 1} → statement M
 substitute-record-spec =

@@ -6,21 +6,21 @@ use mathlib.Core.Path.{sym}
 use native.Mathlib.Omega.{arith}
 use Rattle.buffer.proofs.LittleEndianLaws.{bytes-of}
 use Rattle.record.proofs.CheckedRowLaws.{term-accepted}
-use Rattle.term.proofs.AnsweredLaws.{answers, substitute-checked}
+use Rattle.term.proofs.AnsweredLaws.{substitute-answers, substitute-checked}
 use Rattle.record.proofs.HoldingLaws.{term-as-read, term-whole}
 
 check-term-requires : tie.Need-check-term-requires
 check-term-requires c κs = search needs
 
-refused-requires : tie.Need-refused-requires
-refused-requires c κs = search needs
+refuse-requires : tie.Need-refuse-requires
+refuse-requires c κs = search needs
 
 same-length : tie.Need-same-length
 same-length c = search needs
 
 returns : tie.Need-returns
 returns c =
-    answers (c .refused .ensures)
+    substitute-answers (c .refuse .ensures)
     (substitute-checked (c .before .before .before .before .before .before .before .args .buf .now) (c .before .before .before .before .before .before .before .args .used) (c .before .before .before .check-term .result .number) (c .before .before .before .check-term .result .k) (c .before .before .before .before .before .before .before .args .store .now) (sym (c .before .before .before .check-term .ensures)) (c .before .if1 .taken))
 
 read-header-requires : tie.Need-read-header-requires
@@ -43,7 +43,7 @@ substitute-spec =
     tie.close
     (tie.spec
     check-term-requires
-    refused-requires
+    refuse-requires
     same-length
     returns
     read-header-requires
