@@ -12,7 +12,7 @@ use Rattle.reducer.proofs.RunReducerLaws.{reducer-ran}
 use Rattle.rules.proofs.FinishedLaws.{reduce-finished, step-finished}
 use Rattle.rules.proofs.OverLaws.{reduce-over, reduce-over-noLimit, step-over, step-over-noLimit}
 use Rattle.rules.proofs.ReadBackLaws.{translate-injective}
-use Rattle.rules.proofs.ReplacedLaws.{replacing-iff}
+use Rattle.rules.proofs.ReplacedLaws.{replacing-iff, replacing-same}
 use Rattle.rules.proofs.RulesLaws.{reduce-iff, step-iff}
 use Rattle.rules.proofs.StoreLaws.{upTo-above}
 use Rattle.rules.proofs.Tests.{iff-under}
@@ -31,6 +31,7 @@ demand2 = record {
   steps = λ h. step-iff (okOf h);
   reduces = λ h. reduce-iff (okOf h);
   replaces = λ h. replacing-iff (okOf h);
+  replacesOne = λ h t u v i m n. replacing-same;
   stepsOver = λ h c. Iff·trans (step-over (okOf h) c) (over-largest h);
   reducesOver = λ h t e. Iff·trans (reduce-over (okOf h) t e) (over-largest h);
   stepsOverRules = λ h. step-over-noLimit (okOf h);

@@ -84,6 +84,13 @@ pub totals : Totals
 unfolding witness adding closedAtom closedAtoms closedSimple closedIn closed plays sameAtom sameAtoms exprOf boundOf sourceLetOne sourceLetAll sourceRec source blockOfSource readBack valueOf unrollRec reduceInside reduceLetOne reduce onNext orStop iterate outcomeOf stop oneMore goOn runOn run inRange exprInRange boundInRange blockInRange atomInRange atomsInRange simpleInRange termInRange boundValue unrollLoop stepInside stepAssign stepBlock step upTo minusOne lookup update fromStore only except orRef substituteAtom substituteSimple substitute stateOf refs simpleOf atomOf translate le val padded checkedBy checkProgram checkTerm wroteBy storedBy fuelled fixed lengthField kindField kField kindOf largestOf fieldsOf contentsAt contents headed blockBytes encodeTermRecord blockIn termIn encodeProgram encodeTerm exprKind exprNumber boundKind boundNumber exprFrom boundFrom encodeBlock blockSize commandKind decodeCommand decodeBlockPart decodeBlockStep decodeBlock then bind atEnd fromSome pick word ofKind subOf sub encodeLeaf leafOf leaf anyRecordOf anyRecord encodeRecord cut split pickRow firstRow isNone holds orElse tooLong badBuffer badHeader badK badBlock badTerm blockOutside termOutside badStore openTerm finishedTerm unfinished atomKind atomNumber atomFrom encodeAtoms decodeAtoms simpleKindIf encodeSimple simpleSize onlyAtom plainOf simpleBy simpleFrom readSimple kindOfTerm termContents termSize termKindIf termKind lastTerm decodeTermKind decodeTermStep measureTerm decodeTerm outcomeNumber roomFor tooShort translateCall noSource readBackCall substituteCall substitutedBy given replaced replacedAtom replacedAtoms replacedSimple replacedLetOne replacedLetAll replacedNext orZero replacedSum numerals resultCall steppedTo stepperBy runStepper reducedTo reducerBy runReducer shownBy budget stepperEnding reducerEnding configOf programBytesOf translatedOf substitutedOf endingOfStepper acceptedValues endingOfReducer shownFrom shown reducerExpected expected examples lentStore storeAfter usedAfter afterStepper afterReducer order
 totals = record { stepper = refl; reducer = refl; replaced = refl }
 
+-- so the engines agree after that list
+pub agreed : Agree (ofVariables 4) (play (startWorld (ofVariables 4) add (7 ∷ 3 ∷ 0 ∷ 0 ∷ []) witness) orders)
+unfolding Demand3
+agreed =
+    demand3 (ofVariables 4) add (7 ∷ 3 ∷ 0 ∷ 0 ∷ []) witness orders (tt, (tt, (tt, ((λ e. let z : 0 ≡ 4 = e in omega arith), (tt, (tt, tt))))))
+    (totals .stepper ∙ sym (totals .reducer))
+
 -- the whole of P1: its substitution replaces 5 variables, and its 18 reductions 20
 pub record Counts : Type 0 where
   pub substitution : (substituteCall (witness .termBuf) 172 (7 ∷ 3 ∷ 0 ∷ 0 ∷ [])) .replaced ≡ 5
@@ -92,13 +99,6 @@ pub record Counts : Type 0 where
 pub counts : Counts
 unfolding witness adding closedAtom closedAtoms closedSimple closedIn closed plays sameAtom sameAtoms exprOf boundOf sourceLetOne sourceLetAll sourceRec source blockOfSource readBack valueOf unrollRec reduceInside reduceLetOne reduce onNext orStop iterate outcomeOf stop oneMore goOn runOn run inRange exprInRange boundInRange blockInRange atomInRange atomsInRange simpleInRange termInRange boundValue unrollLoop stepInside stepAssign stepBlock step upTo minusOne lookup update fromStore only except orRef substituteAtom substituteSimple substitute stateOf refs simpleOf atomOf translate le val padded checkedBy checkProgram checkTerm wroteBy storedBy fuelled fixed lengthField kindField kField kindOf largestOf fieldsOf contentsAt contents headed blockBytes encodeTermRecord blockIn termIn encodeProgram encodeTerm exprKind exprNumber boundKind boundNumber exprFrom boundFrom encodeBlock blockSize commandKind decodeCommand decodeBlockPart decodeBlockStep decodeBlock then bind atEnd fromSome pick word ofKind subOf sub encodeLeaf leafOf leaf anyRecordOf anyRecord encodeRecord cut split pickRow firstRow isNone holds orElse tooLong badBuffer badHeader badK badBlock badTerm blockOutside termOutside badStore openTerm finishedTerm unfinished atomKind atomNumber atomFrom encodeAtoms decodeAtoms simpleKindIf encodeSimple simpleSize onlyAtom plainOf simpleBy simpleFrom readSimple kindOfTerm termContents termSize termKindIf termKind lastTerm decodeTermKind decodeTermStep measureTerm decodeTerm outcomeNumber roomFor tooShort translateCall noSource readBackCall substituteCall substitutedBy given replaced replacedAtom replacedAtoms replacedSimple replacedLetOne replacedLetAll replacedNext orZero replacedSum numerals resultCall steppedTo stepperBy runStepper reducedTo reducerBy runReducer shownBy budget stepperEnding reducerEnding configOf programBytesOf translatedOf substitutedOf endingOfStepper acceptedValues endingOfReducer shownFrom shown reducerExpected expected examples lentStore storeAfter usedAfter afterStepper afterReducer order
 counts = record { substitution = refl; run = refl }
-
--- so the engines agree after that list
-pub agreed : Agree (ofVariables 4) (play (startWorld (ofVariables 4) add (7 ∷ 3 ∷ 0 ∷ 0 ∷ []) witness) orders)
-unfolding Demand3
-agreed =
-    demand3 (ofVariables 4) add (7 ∷ 3 ∷ 0 ∷ 0 ∷ []) witness orders (tt, (tt, (tt, ((λ e. let z : 0 ≡ 4 = e in omega arith), (tt, (tt, tt))))))
-    (totals .stepper ∙ sym (totals .reducer))
 
 -- A WEIGHED STORE: 1,500 kg less 1,370 kg are 10 over six twenties, so 7 by rule 2; into four values, for ADD
 

@@ -17,7 +17,7 @@ use Rattle.reducer.specs.ReducerRan.{ReducerRan}
 use Rattle.reducer.specs.RunReducer.{runReducer}
 use Rattle.rules.specs.FreeVariables.{allVars, closed, noVars}
 use Rattle.rules.specs.Reduction.{reduce}
-use Rattle.rules.specs.Replaced.{ReduceReplacing, replacedNext}
+use Rattle.rules.specs.Replaced.{ReduceReplacing, ReductionsReplacing, replacedNext}
 use Rattle.rules.specs.Rules.{Raises, RaisesTerm, Reduce, Step}
 use Rattle.rules.specs.Sound.{SmallValues}
 use Rattle.rules.specs.Step.{step}
@@ -37,6 +37,8 @@ pub record Demand2 : Type 0 where
   pub reduces : (h : Header) (t u : Term) → closed t ≡ true → (reduce (okOf h) t ≡ next u) ↔ Reduce (okOf h) t u
   -- and each reduction of the rules replaces so many variables, and no other number (02 C-13)
   pub replaces : (h : Header) (t u : Term) (n : ℕ) → ReduceReplacing (okOf h) t n u ↔ (Reduce (okOf h) t u × (replacedNext t ≡ n))
+  -- so that as many reductions from one term have one number counted from the rules
+  pub replacesOne : (h : Header) (t u v : Term) (i m n : ℕ) → ReductionsReplacing (okOf h) t i m u → ReductionsReplacing (okOf h) t i n v → m ≡ n
   pub stepsOver : (h : Header) (c : Config) → (step (okOf h) c ≡ over) ↔ ((n : ℕ) × Raises c n × (largestOf h < n))
   pub reducesOver : (h : Header) (t : Term) → closed t ≡ true → (reduce (okOf h) t ≡ over) ↔ ((n : ℕ) × RaisesTerm t n × (largestOf h < n))
   pub stepsOverRules : (h : Header) (c : Config) → (step (okOf h) c ≡ over) ↔ ((d : Config) × Step noLimit c d × (Step (okOf h) c d → ⊥))

@@ -13,7 +13,7 @@ use Rattle.rules.specs.Step.{boundValue, step, stepAssign, stepBlock, st
 use Rattle.rules.specs.Store.{lookup, minusOne, noLimit, update}
 use Rattle.rules.specs.Syntax.{Answer, Block, Bound, Config, Expr, assign, dec, empty, finished, inc, lit, loop, nest, next, over, upto, var}
 use Rattle.rules.specs.Translation.{all}
-use Rattle.rules.proofs.IterateLaws.{iterate-further}
+use Rattle.rules.proofs.IterateLaws.{iterate-first, iterate-further}
 use Rattle.rules.proofs.OverLaws.{step-noLimit}
 use Rattle.rules.proofs.RulesLaws.{rules-step, step-rules}
 use Rattle.rules.proofs.WalkLaws.{Halts, empty-halts, reaches-walk, walk-runs}
@@ -25,8 +25,7 @@ abbrev Reaches : Config → ℕ → Config → Type 0
 Reaches c n d = iterate (step noLimit) n c ≡ some d
 
 one-step : (c d : Config) → step noLimit c ≡ next d → Reaches c 1 d
-unfolding iterate orStop
-one-step c d e = ap (λ (o : Answer Config). orStop o (λ b. some b)) e
+one-step c d e = iterate-first (step noLimit) 0 c d d e (unfold iterate in refl)
 
 then-reaches : (m n : ℕ) (a b c : Config) → Reaches a m b → Reaches b n c → Reaches a (m + n) c
 then-reaches m n a b c = iterate-further (step noLimit) m n a b c

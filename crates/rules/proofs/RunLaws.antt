@@ -11,6 +11,7 @@ use native.Mathlib.Omega.{arith}
 use Rattle.rules.specs.Run.{Further, Ran, goOn, iterate, oneMore, orStop, outcomeOf, run, runOn, stop}
 use Rattle.rules.specs.Step.{step}
 use Rattle.rules.specs.Syntax.{Answer, finished, next, over}
+use Rattle.rules.proofs.IterateLaws.{iterate-first}
 use Rattle.rules.proofs.Tests.{true-false}
 
 -- the counts added, the rest as the second run says
@@ -31,7 +32,7 @@ module _ {A : Type 0} (f : A → Answer A) (fits : A → Bool) where
     where
       test : (t : Bool) → Reached a (goOn f fits a t more b)
       test false = refl
-      test true = ap (λ (o : Answer A). orStop o (λ (c : A). iterate f ((more b) .count) c)) e ∙ ih b
+      test true = iterate-first f ((more b) .count) a b ((more b) .state) e (ih b)
 
   pub run-reached : (n : ℕ) (a : A) → iterate f ((run f fits n a) .count) a ≡ some ((run f fits n a) .state)
   unfolding run stop iterate
