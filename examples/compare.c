@@ -1,6 +1,8 @@
 /* One program on both engines, as an integrator would write it: checked, translated, the store substituted, run in slices of
- * different lengths, and compared whenever both have made the same number of steps. It ends whatever the outcomes are, and names
- * them, and how many variables became numerals: where the store was substituted, and in the reductions. `./test` builds and runs it:
+ * different lengths, and compared whenever both have made the same number of steps. Then the same program by the counting stepper, which
+ * needs no room: where the stepper has stopped, its state is written out and is the stepper's, and it goes on from there. It ends
+ * whatever the outcomes are, and names them, and how many variables became numerals: where the store was substituted, and in the
+ * reductions. `./test` builds and runs it:
  *
  *    cc -I include examples/compare.c target/staticlib/libvistrokk.a -o compare
  *    ./compare [FILE [BUDGET [STEPPER_ROOM [REDUCER_ROOM]]]]
@@ -16,9 +18,10 @@
 
 #include "vistrokk.h"
 
-/* How many steps an engine gets at a time: two numbers, so that the engines are seldom level. */
+/* How many steps an engine gets at a time: different numbers, so that the engines are seldom level. */
 #define STEPPER_SLICE 3
 #define REDUCER_SLICE 2
+#define COUNTING_SLICE 5
 
 /* k = 4, {x3 := x1; for x4 := 1 to x2 {x3 := x3 + 1}}. */
 static const uint8_t add[64] = {
@@ -37,8 +40,10 @@ static const char *const refusals[] = {
     [VISTROKK_BAD_K] = "bad k",
     [VISTROKK_MALFORMED] = "malformed",
     [VISTROKK_BAD_VARIABLE] = "bad variable",
+    [VISTROKK_TOO_DEEP] = "too deep",
     [VISTROKK_BAD_STORE] = "bad store",
     [VISTROKK_BAD_RULE] = "bad rule",
+    [VISTROKK_BAD_STATE] = "bad state",
     [VISTROKK_FREE_VARIABLE] = "free variable",
     [VISTROKK_UNFINISHED] = "unfinished",
     [VISTROKK_NO_PROGRAM] = "no program",
@@ -67,6 +72,15 @@ typedef struct {
     uint32_t left, steps;
     vistrokk_ran last;
 } engine;
+
+/* The counting stepper: its state, which is all zeros at the start, its store, its steps, and the answer to its last order. It is lent
+ * the program of the start with every order. */
+static struct {
+    uint32_t state[VISTROKK_STATE_WORDS];
+    uint32_t store[VISTROKK_VARIABLES_MOST];
+    uint32_t steps;
+    vistrokk_counted last;
+} counting;
 
 static load start;
 static engine stepper, reducer;
@@ -199,37 +213,80 @@ static int next_order(void)
     return 0;
 }
 
-/* Where both have finished, the reducer's values are the stepper's store. */
-static int same_result(void)
+/* Up to `budget` further steps of the counting stepper. The first order makes none: it tells where the stepper stands. */
+static int count(uint32_t budget)
 {
-    uint32_t shown[VISTROKK_VARIABLES_MOST];
-    if (stepper.last.outcome != VISTROKK_FINISHED || reducer.last.outcome != VISTROKK_FINISHED)
-        return 1;
-    return vistrokk_result(reducer.buf, reducer.room, reducer.last.used, shown, start.k) == VISTROKK_ACCEPTED &&
-           memcmp(shown, store, start.k * sizeof store[0]) == 0;
+    uint32_t most = 0;
+    do {
+        counting.last = vistrokk_run_counting(start.record, sizeof start.record, start.used, counting.state, counting.store,
+                                              start.k, most);
+        if (counting.last.number != VISTROKK_ACCEPTED)
+            return refused("run_counting", counting.last.number);
+        counting.steps += counting.last.steps;
+        budget -= most;
+        most = budget < COUNTING_SLICE ? budget : COUNTING_SLICE;
+    } while (counting.last.outcome == VISTROKK_SPENT && most > 0);
+    return 0;
 }
 
-static int compare(void)
+/* Is the counting stepper's state, written out, the stepper's record, and its store the stepper's? */
+static int level(void)
+{
+    static uint8_t out[VISTROKK_BUFFER_MOST];
+    vistrokk_written w = vistrokk_expand(start.record, sizeof start.record, start.used, counting.state, counting.store, start.k,
+                                         out, sizeof out);
+    return w.number == VISTROKK_ACCEPTED && w.used == stepper.last.used && memcmp(out, stepper.buf, w.used) == 0 &&
+           counting.steps == stepper.steps && memcmp(counting.store, store, sizeof store) == 0;
+}
+
+/* The counting stepper, as far as the stepper came, where it is compared; then as far as the budget reaches. */
+static int count_all(uint32_t budget)
+{
+    memcpy(counting.store, start.store, sizeof store);
+    if (count(stepper.steps) != 0)
+        return 1;
+    if (!level()) {
+        fprintf(stderr, "the steppers differ after %u steps\n", (unsigned) stepper.steps);
+        return 1;
+    }
+    return count(budget - stepper.steps);
+}
+
+/* Where the reducer and a stepper have finished, the reducer's values are that stepper's store. */
+static int same_result(uint32_t outcome, const uint32_t *values)
+{
+    uint32_t shown[VISTROKK_VARIABLES_MOST];
+    if (outcome != VISTROKK_FINISHED || reducer.last.outcome != VISTROKK_FINISHED)
+        return 1;
+    return vistrokk_result(reducer.buf, reducer.room, reducer.last.used, shown, start.k) == VISTROKK_ACCEPTED &&
+           memcmp(shown, values, start.k * sizeof values[0]) == 0;
+}
+
+static int compare(uint32_t budget)
 {
     uint32_t compared = 0, i;
     do {
-        int level = stepper.steps == reducer.steps;
-        if (level && !agree()) {
+        int same_total = stepper.steps == reducer.steps;
+        if (same_total && !agree()) {
             fprintf(stderr, "the engines differ after %u steps\n", (unsigned) stepper.steps);
             return 1;
         }
-        compared += level;
+        compared += same_total;
     } while (next_order());
     if (stepper.last.number != VISTROKK_ACCEPTED)
         return refused("run_stepper", stepper.last.number);
     if (reducer.last.number != VISTROKK_ACCEPTED)
         return refused("run_reducer", reducer.last.number);
-    if (!same_result()) {
+    if (count_all(budget) != 0)
+        return 1;
+    if (!same_result(stepper.last.outcome, store) || !same_result(counting.last.outcome, counting.store)) {
         fprintf(stderr, "the engines show different results\n");
         return 1;
     }
-    printf("stepper %s after %u, reducer %s after %u, comparisons: %u, ", outcomes[stepper.last.outcome],
-           (unsigned) stepper.steps, outcomes[reducer.last.outcome], (unsigned) reducer.steps, (unsigned) compared);
+    printf("stepper %s after %u, counting %s after %u, ", outcomes[stepper.last.outcome], (unsigned) stepper.steps,
+           outcomes[counting.last.outcome], (unsigned) counting.steps);
+    printf("reducer %s after %u, comparisons: %u, ", outcomes[reducer.last.outcome], (unsigned) reducer.steps,
+           (unsigned) compared);
     printf("replaced: %" PRIu32 " at the start and %" PRIu64 " by reductions, store:", replaced_at_start, replaced_by_reductions);
     for (i = 0; i < start.k; i++)
         printf(" %u", (unsigned) store[i]);
@@ -255,8 +312,8 @@ static uint32_t argument(int argc, char **argv, int which, uint32_t most, uint32
 int main(int argc, char **argv)
 {
     static uint8_t bytes[VISTROKK_BUFFER_MOST + 4 * VISTROKK_VARIABLES_MOST + 1];
-    uint32_t number;
-    stepper.left = reducer.left = argument(argc, argv, 2, UINT32_MAX, 1000000);
+    uint32_t number, budget = argument(argc, argv, 2, UINT32_MAX, 1000000);
+    stepper.left = reducer.left = budget;
     stepper.room = argument(argc, argv, 3, VISTROKK_BUFFER_MOST, VISTROKK_BUFFER_MOST);
     reducer.room = argument(argc, argv, 4, VISTROKK_BUFFER_MOST, VISTROKK_BUFFER_MOST);
     if (argc > 1) {
@@ -273,5 +330,5 @@ int main(int argc, char **argv)
     }
     if (number != VISTROKK_ACCEPTED)
         return refused("the load", number);
-    return begin() != 0 || compare() != 0;
+    return begin() != 0 || compare(budget) != 0;
 }

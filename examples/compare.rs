@@ -7,6 +7,7 @@ use std::process::exit;
 
 // The constants of include/vistrokk.h, as far as they are needed here.
 const BUFFER_MOST: usize = 16_384;
+const STATE_WORDS: usize = 189;
 
 const ACCEPTED: u32 = 0;
 const BAD_BUFFER: u32 = 1;
@@ -19,7 +20,7 @@ const FINISHED: u32 = 1;
 const SPENT: u32 = 4;
 
 /// The refusals by name, in the order of their numbers.
-const REFUSALS: [&str; 12] = [
+const REFUSALS: [&str; 14] = [
     "accepted",
     "bad buffer",
     "bad header",
@@ -32,14 +33,17 @@ const REFUSALS: [&str; 12] = [
     "no program",
     "output too short",
     "bad rule",
+    "too deep",
+    "bad state",
 ];
 
 /// The outcomes by name, in the order of their numbers.
 const OUTCOMES: [&str; 5] = ["refused", "finished", "over", "noroom", "spent"];
 
-/// How many steps an engine gets at a time: two numbers, so that the engines are seldom level.
+/// How many steps an engine gets at a time: different numbers, so that the engines are seldom level.
 const STEPPER_SLICE: u32 = 3;
 const REDUCER_SLICE: u32 = 2;
+const COUNTING_SLICE: u32 = 5;
 
 #[repr(C)]
 struct Checked {
@@ -68,6 +72,15 @@ struct Ran {
     steps: u32,
     left: u32,
     used: u32,
+}
+
+#[repr(C)]
+#[allow(dead_code)] // The budget left is not looked at here.
+struct Counted {
+    number: u32,
+    outcome: u32,
+    steps: u32,
+    left: u32,
 }
 
 /// The fields of the header's struct in its order: a `Ran`'s, and the count.
@@ -108,6 +121,25 @@ extern "C" {
         store_len: usize,
         budget: u32,
     ) -> Ran;
+    fn vistrokk_run_counting(
+        program: *const u8,
+        program_len: usize,
+        used: usize,
+        state: *mut u32,
+        store: *mut u32,
+        store_len: usize,
+        budget: u32,
+    ) -> Counted;
+    fn vistrokk_expand(
+        program: *const u8,
+        program_len: usize,
+        used: usize,
+        state: *const u32,
+        store: *const u32,
+        store_len: usize,
+        out: *mut u8,
+        out_len: usize,
+    ) -> Written;
     fn vistrokk_run_reducer(buf: *mut u8, buf_len: usize, used: usize, budget: u32) -> Reduced;
     fn vistrokk_result(
         buf: *const u8,
@@ -141,6 +173,26 @@ fn substitute(buf: &mut [u8], used: usize, store: &[u32]) -> Substituted {
 fn run_stepper(buf: &mut [u8], used: usize, store: &mut [u32], budget: u32) -> Ran {
     let (values, count) = (store.as_mut_ptr(), store.len());
     unsafe { vistrokk_run_stepper(buf.as_mut_ptr(), buf.len(), used, values, count, budget) }
+}
+
+// The state goes over without its length, so its type must have it.
+
+fn run_counting(
+    program: &[u8],
+    state: &mut [u32; STATE_WORDS],
+    store: &mut [u32],
+    budget: u32,
+) -> Counted {
+    let (at, used, words) = (program.as_ptr(), program.len(), state.as_mut_ptr());
+    let (values, count) = (store.as_mut_ptr(), store.len());
+    unsafe { vistrokk_run_counting(at, used, used, words, values, count, budget) }
+}
+
+fn expand(program: &[u8], state: &[u32; STATE_WORDS], store: &[u32], out: &mut [u8]) -> Written {
+    let (at, used, words) = (program.as_ptr(), program.len(), state.as_ptr());
+    let (values, count) = (store.as_ptr(), store.len());
+    let (to, room) = (out.as_mut_ptr(), out.len());
+    unsafe { vistrokk_expand(at, used, used, words, values, count, to, room) }
 }
 
 fn run_reducer(buf: &mut [u8], used: usize, budget: u32) -> Reduced {
@@ -245,8 +297,60 @@ struct Replaced {
     by_reductions: u64,
 }
 
+/// The counting stepper: the program of the start, which it is lent with every order, its state, its store, its steps, and the
+/// outcome of its last order.
+struct Counting {
+    program: Vec<u8>,
+    state: [u32; STATE_WORDS],
+    store: Vec<u32>,
+    steps: u32,
+    outcome: u32,
+}
+
+impl Counting {
+    /// All zeros is the start.
+    fn begin(load: &Load) -> Counting {
+        Counting {
+            program: load.record.clone(),
+            state: [0; STATE_WORDS],
+            store: load.store.clone(),
+            steps: 0,
+            outcome: SPENT,
+        }
+    }
+
+    /// Up to `budget` further steps. The first order makes none: it tells where the stepper stands.
+    fn count(&mut self, mut budget: u32) -> Result<(), Refused> {
+        let mut most = 0;
+        loop {
+            let counted = run_counting(&self.program, &mut self.state, &mut self.store, most);
+            accepted("run_counting", counted.number)?;
+            self.outcome = counted.outcome;
+            self.steps += counted.steps;
+            budget -= most;
+            most = budget.min(COUNTING_SLICE);
+            if self.outcome != SPENT || most == 0 {
+                return Ok(());
+            }
+        }
+    }
+
+    /// Is the state, written out, the stepper's record, and the store the stepper's?
+    fn level(&self, stepper: &Engine, store: &[u32]) -> bool {
+        let mut out = vec![0; BUFFER_MOST];
+        let written = expand(&self.program, &self.state, &self.store, &mut out);
+        let used = written.used as usize;
+        written.number == ACCEPTED
+            && used == stepper.used()
+            && out[..used] == stepper.buf[..used]
+            && self.steps == stepper.steps
+            && self.store == store
+    }
+}
+
 struct Engines {
     stepper: Engine,
+    counting: Counting,
     reducer: Engine,
     store: Vec<u32>,
     replaced: Replaced,
@@ -257,6 +361,7 @@ impl Engines {
     /// it. A budget of 0 makes no step: it tells where each engine stands.
     fn begin(load: Load, budget: u32, rooms: [usize; 2]) -> Result<Engines, Refused> {
         let used = load.record.len();
+        let counting = Counting::begin(&load);
         let mut program = load.record.clone();
         program.resize(BUFFER_MOST, 0);
         program.truncate(rooms[0]);
@@ -281,6 +386,7 @@ impl Engines {
         };
         Ok(Engines {
             stepper: engine(program, stepper),
+            counting,
             reducer: engine(term, reducer.ran),
             store,
             replaced,
@@ -308,6 +414,7 @@ impl Engines {
             reducer,
             store,
             replaced,
+            ..
         } = self;
         if stepper.goes_on() && (stepper.steps <= reducer.steps || !reducer.goes_on()) {
             let (used, budget) = (stepper.used(), stepper.slice(STEPPER_SLICE));
@@ -326,18 +433,35 @@ impl Engines {
         false
     }
 
-    /// Where both have finished, the reducer's values are the stepper's store.
-    fn same_result(&self) -> bool {
-        if [self.stepper.last.outcome, self.reducer.last.outcome] != [FINISHED; 2] {
+    /// The counting stepper, as far as the stepper came, where it is compared; then as far as the budget reaches.
+    fn count_all(&mut self, budget: u32) -> Result<(), Refused> {
+        let steps = self.stepper.steps;
+        self.counting.count(steps)?;
+        if !self.counting.level(&self.stepper, &self.store) {
+            eprintln!("the steppers differ after {steps} steps");
+            exit(1);
+        }
+        self.counting.count(budget - steps)
+    }
+
+    /// Where the reducer and a stepper have finished, the reducer's values are that stepper's store.
+    fn same_result(&self, outcome: u32, store: &[u32]) -> bool {
+        if [outcome, self.reducer.last.outcome] != [FINISHED; 2] {
             return true;
         }
-        let mut shown = vec![0; self.store.len()];
+        let mut shown = vec![0; store.len()];
         let number = result(&self.reducer.buf, self.reducer.used(), &mut shown);
-        number == ACCEPTED && shown == self.store
+        number == ACCEPTED && shown == store
+    }
+
+    fn same_results(&self) -> bool {
+        let counting = &self.counting;
+        self.same_result(self.stepper.last.outcome, &self.store)
+            && self.same_result(counting.outcome, &counting.store)
     }
 }
 
-fn compare(engines: &mut Engines) -> Result<(), Refused> {
+fn compare(engines: &mut Engines, budget: u32) -> Result<(), Refused> {
     let mut compared = 0;
     loop {
         if engines.stepper.steps == engines.reducer.steps {
@@ -351,21 +475,21 @@ fn compare(engines: &mut Engines) -> Result<(), Refused> {
             break;
         }
     }
-    let (stepper, reducer) = (&engines.stepper, &engines.reducer);
-    accepted("run_stepper", stepper.last.number)?;
-    accepted("run_reducer", reducer.last.number)?;
-    if !engines.same_result() {
+    accepted("run_stepper", engines.stepper.last.number)?;
+    accepted("run_reducer", engines.reducer.last.number)?;
+    engines.count_all(budget)?;
+    if !engines.same_results() {
         eprintln!("the engines show different results");
         exit(1);
     }
-    let outcome = |engine: &Engine| OUTCOMES[engine.last.outcome as usize];
-    print!(
-        "stepper {} after {}, reducer {} after {}, comparisons: {compared}, ",
-        outcome(stepper),
-        stepper.steps,
-        outcome(reducer),
-        reducer.steps
-    );
+    let (stepper, counting, reducer) = (&engines.stepper, &engines.counting, &engines.reducer);
+    let show = |engine: &str, outcome: u32, steps: u32| {
+        print!("{engine} {} after {steps}, ", OUTCOMES[outcome as usize]);
+    };
+    show("stepper", stepper.last.outcome, stepper.steps);
+    show("counting", counting.outcome, counting.steps);
+    show("reducer", reducer.last.outcome, reducer.steps);
+    print!("comparisons: {compared}, ");
     let Replaced {
         at_start,
         by_reductions,
@@ -409,7 +533,7 @@ fn main() {
         None => weighed(),
     };
     let begun = load.and_then(|load| Engines::begin(load, budget, rooms));
-    if let Err((call, number)) = begun.and_then(|mut engines| compare(&mut engines)) {
+    if let Err((call, number)) = begun.and_then(|mut engines| compare(&mut engines, budget)) {
         eprintln!("{call}: refused {number} ({})", REFUSALS[number as usize]);
         exit(1);
     }

@@ -2,8 +2,8 @@
  * docs/FORMAT.md says what the records are.
  *
  * Lent memory: a buffer is a pointer and its length in bytes; its first `used` bytes are the record. A store is a pointer to
- * 32-bit values, aligned to 4 bytes, and their number; its first value is variable 1's. Memory lent to one call must not overlap.
- * NULL may be lent only with length 0. No call keeps a pointer.
+ * 32-bit values, aligned to 4 bytes, and their number; its first value is variable 1's. A state is a pointer to 189 words, aligned
+ * to 4 bytes. Memory lent to one call must not overlap. NULL may be lent only with length 0. No call keeps a pointer.
  *
  * Reentrant, no statics, no allocation: the archive has code and constants alone, and the one symbol that it needs from outside
  * is memset. No call needs more than about 2 KB of stack (translate: 3 KB).
@@ -33,8 +33,10 @@ enum vistrokk_refusal {
     VISTROKK_BAD_K = 3,            /* k not 1 to 16 */
     VISTROKK_MALFORMED = 4,        /* bytes outside the grammar, variable numbers disregarded */
     VISTROKK_BAD_VARIABLE = 5,     /* a variable number not 1 to k */
+    VISTROKK_TOO_DEEP = 12,        /* counting: blocks and loops nested over 32 deep, the outermost block counted */
     VISTROKK_BAD_STORE = 6,        /* the store has not k values; weighing: not 1 to 16 */
     VISTROKK_BAD_RULE = 11,        /* weighing: a rule number other than 1 or 2 */
+    VISTROKK_BAD_STATE = 13,       /* counting: words that hold no state of the program */
     VISTROKK_FREE_VARIABLE = 7,    /* a free variable in the term */
     VISTROKK_UNFINISHED = 8,       /* the term is not finished */
     VISTROKK_NO_PROGRAM = 9,       /* no program translates to the term */
@@ -101,8 +103,38 @@ typedef struct { uint32_t number, outcome, steps, left, used; } vistrokk_ran;
  * left and zeros behind it up to buf_len, also after 0 steps, and the store has its values. */
 vistrokk_ran vistrokk_run_stepper(uint8_t *buf, size_t buf_len, size_t used, uint32_t *store, size_t store_len, uint32_t budget);
 
-/* How a run of the reducer ended: as above, and replaced: how many variable records its reductions turned into numerals, all of them
- * together; 0 with a refusal. What vistrokk_substitute replaced before the run is not in it. */
+/* The state of the counting stepper, in words of the caller. It holds each loop in play as counts and unrolls nothing, so it never
+ * lacks room. All zeros is the start. A place is a distance in bytes from the outermost block's first command, which is at 0.
+ *
+ *   [0] the place in the outermost block, of a command or its end     [1] not 0: a sum is worked out and waits     [2] the sum
+ *   [3 + 6 j ..], for j = 0 to 30: what is open, the outermost first
+ *     + 0  0 nothing more is open; 1 a block; 2 a loop in play        + 1  the place of its record
+ *     + 2  a loop's top count                                         + 3  the count it has reached
+ *     + 4  a loop: 0 it is unrolling, with the count reached now left in it; not 0 it is running, and the count is the turn it is
+ *          in, or 0 where it became an empty block
+ *     + 5  a block: its place. A loop in a turn: 1 its index is still to be stored, p + 2 its body's place p; else 0
+ *
+ * What a state does not hold is not looked at: the entries from the first with 0 on, + 2 to + 4 of a block, the sum where none
+ * waits. An accepted run leaves 0 there, and 0 or 1 in [1] and + 4, also after 0 steps. */
+enum { VISTROKK_STATE_WORDS = 189 };
+
+/* How a run of the counting stepper ended: as above. It has no used length, and is never VISTROKK_NO_ROOM. */
+typedef struct { uint32_t number, outcome, steps, left; } vistrokk_counted;
+
+/* Makes up to `budget` steps of a program, loops carried as counts: the steps of vistrokk_run_stepper, in a state of 189 words and
+ * not in the record. Lent: the program's record, the same with every order from the start on and never changed; the state and the
+ * store of k values, both changed in place. Refusals 1 to 5, 12, 6 and 13. Accepted, the state and the store have their values. */
+vistrokk_counted vistrokk_run_counting(const uint8_t *program, size_t program_len, size_t used,
+    uint32_t state[VISTROKK_STATE_WORDS], uint32_t *store, size_t store_len, uint32_t budget);
+
+/* What the state stands for, written out as a program's record into `out`: the one that vistrokk_run_stepper has after the same
+ * steps. With it and the store that stepper goes on, and no step is lost. Refusals 1 (either buffer), 2 to 5, 12, 6, 13 and 10.
+ * Writes `out` alone. */
+vistrokk_written vistrokk_expand(const uint8_t *program, size_t program_len, size_t used,
+    const uint32_t state[VISTROKK_STATE_WORDS], const uint32_t *store, size_t store_len, uint8_t *out, size_t out_len);
+
+/* How a run of the reducer ended: as of vistrokk_run_stepper, and replaced: how many variable records its reductions turned into
+ * numerals, all of them together; 0 with a refusal. What vistrokk_substitute replaced before the run is not in it. */
 typedef struct { uint32_t number, outcome, steps, left, used; uint64_t replaced; } vistrokk_reduced;
 
 /* Makes up to `budget` reductions of a closed term. Lent: the term's record in buf, of which the whole of buf_len is room to

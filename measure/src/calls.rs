@@ -5,6 +5,7 @@
 //! copy of the buffer in them. Every buffer is 16,384 bytes long.
 
 mod check;
+mod counting;
 mod reducer;
 mod stepper;
 mod terms;
@@ -22,6 +23,7 @@ pub fn print() {
     terms::print();
     weigh::print();
     stepper::print();
+    counting::print();
     reducer::print();
     println!();
 }

@@ -2,6 +2,8 @@
 //! with recursion where the grammar has it, and with no proof. What the library is to be held to.
 
 pub mod check;
+pub mod counting;
+pub mod expand;
 pub mod read_back;
 pub mod reducer;
 pub mod stepper;
@@ -10,15 +12,19 @@ pub mod substitute;
 pub mod translate;
 
 use other::calls::{self, Ran};
+use other::check::depth;
 use other::codec::Record;
 use other::generate::lending::output_room;
 use other::generate::lending::{
     closed, perhaps_damaged, sound_term, translatable_program, Lending,
 };
 use other::generate::programs::store as generated_store;
+use other::generate::states::{any_spot, damaged};
 use other::random::Random;
+use other::run::counting::words::{write, STATE_WORDS};
 use other::run::Outcome;
 use other::substitute::{substitute as substitute_in, values_of};
+use other::tree::Program;
 
 fn half(bytes: &[u8], at: usize) -> usize {
     usize::from(u16::from_le_bytes([bytes[at], bytes[at + 1]]))
@@ -140,6 +146,7 @@ pub fn agree() {
         let (budget, values) = (random.below(100) as u32, generated_store(random, program.k));
         let lending = perhaps_damaged(random, &program.encode());
         agree_on_program(&lending, &values, budget);
+        agree_on_counting(random, &program, &lending, &values, budget);
         let out = translated(&lending, output_room(random, 3 * lending.buffer.len()));
         agree_on_term(&out, &values, budget);
         agree_on_source(&out, output_room(random, lending.buffer.len()));
@@ -161,6 +168,32 @@ fn agree_on_program(Lending { buffer, used }: &Lending, values: &[u32], budget: 
     let (mut other_buf, mut other_store) = (buffer.clone(), values.to_vec());
     let other = calls::run_stepper(&mut other_buf, *used, &mut other_store, budget);
     assert_eq!((ran, buf, store), (other, other_buf, other_store));
+}
+
+/// On a state of the program, or one that is damaged.
+fn agree_on_counting(
+    random: &mut Random,
+    program: &Program,
+    Lending { buffer, used }: &Lending,
+    values: &[u32],
+    budget: u32,
+) {
+    let mut state = [0; STATE_WORDS];
+    if depth(program).is_ok() && !random.one_in(4) {
+        state = write(&any_spot(random, &program.block), program);
+    }
+    if random.one_in(4) {
+        state = damaged(random, &state);
+    }
+    let (mut out, mut other_out) = (vec![0xA5; 2_000], vec![0xA5; 2_000]);
+    let written = expand::expand(buffer, *used, &state, values, &mut out);
+    let other = calls::expand(buffer, *used, &state, values, &mut other_out);
+    assert_eq!((written, out), (other, other_out));
+    let (mut other_state, mut other_store) = (state, values.to_vec());
+    let mut store = values.to_vec();
+    let counted = counting::run_counting(buffer, *used, &mut state, &mut store, budget);
+    let other = calls::run_counting(buffer, *used, &mut other_state, &mut other_store, budget);
+    assert_eq!((counted, state, store), (other, other_state, other_store));
 }
 
 /// The translation by both, into a buffer of this length.

@@ -1,6 +1,6 @@
 //! So many steps of ADD, or of ADD with minus one in the place of plus one, by one engine of the
-//! library, for a count of instructions: `steps stepper|reducer add|subtract BUDGET`. ./bench runs
-//! it under callgrind with two budgets and divides.
+//! library, for a count of instructions: `steps stepper|counting|reducer add|subtract BUDGET`. ./bench
+//! runs it under callgrind with two budgets and divides.
 
 use std::hint::black_box;
 
@@ -8,6 +8,7 @@ use other::codec::Record;
 use other::examples::{add, subtract};
 use other::generate::lend;
 use other::library;
+use other::run::counting::words::STATE_WORDS;
 
 fn main() {
     let arguments: Vec<String> = std::env::args().collect();
@@ -25,6 +26,18 @@ fn main() {
             black_box(library::run_stepper(
                 &mut buf,
                 record.len(),
+                &mut store,
+                budget,
+            ));
+        }
+        "counting" => {
+            let record = program.encode();
+            let (mut state, mut store) = ([0; STATE_WORDS], [7, 3_500, 0, 0]);
+            let buf = lend(&record, 16_384);
+            black_box(library::run_counting(
+                &buf,
+                record.len(),
+                &mut state,
                 &mut store,
                 budget,
             ));

@@ -6,12 +6,14 @@
 //! states what 01 says is a test of both.
 
 mod check;
+mod counting;
 mod reducer;
 mod stepper;
 mod terms;
 mod weigh;
 
 pub use check::{check_program, check_term};
+pub use counting::{expand, run_counting};
 pub use reducer::run_reducer;
 pub use stepper::run_stepper;
 pub use terms::{read_back, result, substitute, translate};

@@ -1,4 +1,4 @@
-//! Every call over bytes: the nine functions of `include/vistrokk.h`.
+//! Every call over bytes: the eleven functions of `include/vistrokk.h`.
 //!
 //! Each one tests its rows in the table's order before it changes anything. A refusal gives its number
 //! and 0 for everything else, and leaves every lent slice as it came. After an accepted call the
@@ -7,6 +7,8 @@
 use crate::check::{self, Refusal, BUFFER_LIMIT};
 use crate::codec::Record;
 use crate::read_back;
+use crate::run::counting::words::{self, Words};
+use crate::run::counting::{expand as expansion, Counting};
 use crate::run::reducer::finished_values;
 use crate::run::stepper::Config;
 use crate::run::{self, Outcome};
@@ -51,6 +53,15 @@ pub struct Reduced {
     pub replaced: u64,
 }
 
+/// A run of the counting stepper (02, C-14): it has no buffer to write, so no used length.
+#[derive(Clone, Copy, Debug, Default, PartialEq, Eq)]
+pub struct Counted {
+    pub number: u32,
+    pub outcome: u32,
+    pub steps: u32,
+    pub left: u32,
+}
+
 // A refusal: its number, and 0 for everything else.
 
 impl Checked {
@@ -91,6 +102,16 @@ impl Reduced {
     pub fn refused(number: impl Into<u32>) -> Reduced {
         let ran = Ran::refused(number);
         Reduced { ran, replaced: 0 }
+    }
+}
+
+impl Counted {
+    pub fn refused(number: impl Into<u32>) -> Counted {
+        Counted {
+            number: number.into(),
+            outcome: Outcome::Refused.number(),
+            ..Counted::default()
+        }
     }
 }
 
@@ -188,6 +209,77 @@ fn configuration(buf: &[u8], used: usize, store: &[u32]) -> Result<Config, Refus
     values_for(program.k, store)?;
     let store = store.to_vec();
     Ok(Config { program, store })
+}
+
+// Rows 1–5, 12, 6, 13.
+
+/// The program is lent unchanged with every order; the state and the store are written.
+pub fn run_counting(
+    program: &[u8],
+    used: usize,
+    state: &mut Words,
+    store: &mut [u32],
+    budget: u32,
+) -> Counted {
+    let mut counting = match counting(program, used, state, store) {
+        Ok(counting) => counting,
+        Err(refusal) => return Counted::refused(refusal),
+    };
+    let (outcome, steps) = counting.run(budget);
+    *state = words::write(&counting.spot, &counting.program);
+    store.copy_from_slice(&counting.store);
+    Counted {
+        number: 0,
+        outcome: outcome.number(),
+        steps,
+        left: budget - steps,
+    }
+}
+
+fn counting(
+    program: &[u8],
+    used: usize,
+    state: &Words,
+    store: &[u32],
+) -> Result<Counting, Refusal> {
+    let program: Program = check::lent(program, used)?;
+    check::depth(&program)?;
+    values_for(program.k, store)?;
+    let spot = words::read(state, &program).ok_or(Refusal::BadState)?;
+    let store = store.to_vec();
+    Ok(Counting {
+        program,
+        spot,
+        store,
+    })
+}
+
+// Rows 1 (both buffers), 2–5, 12, 6, 13, 10.
+
+pub fn expand(
+    program: &[u8],
+    used: usize,
+    state: &Words,
+    store: &[u32],
+    out: &mut [u8],
+) -> Written {
+    written(expanded(program, used, state, store, out.len()), out)
+}
+
+/// The length is worked out before anything is built: it may be more than any memory holds.
+fn expanded(
+    program: &[u8],
+    used: usize,
+    state: &Words,
+    store: &[u32],
+    room: usize,
+) -> Result<Vec<u8>, Refusal> {
+    check::buffer(room, 0)?;
+    let counting = counting(program, used, state, store)?;
+    if expansion::record_len(&counting.program, &counting.spot) > room as u64 {
+        return Err(Refusal::OutputTooShort);
+    }
+    Ok(counting.expansion().program.encode())
 }
 
 // Rows 1–5, 7.

@@ -1,6 +1,7 @@
-//! Rows 1 to 5 of 01, "Where an order stops", and the numbers of all: 01's ten and 02's.
+//! Rows 1 to 5 of 01, "Where an order stops", row 12 of 02, and the numbers of all: 01's ten and 02's.
 
 use crate::codec::Record;
+use crate::tree::{Block, Command, Program};
 
 /// Why a call is refused, by the names of `include/vistrokk.h` and in the order of the table, 01's with 02's
 /// rows at their places; the discriminant is the number.
@@ -16,10 +17,14 @@ pub enum Refusal {
     Malformed = 4,
     /// A variable number that is not 1 to k.
     BadVariable = 5,
+    /// Blocks and loops nested over 32 deep (02, C-14: after refusal 5).
+    TooDeep = 12,
     /// A store of other than k values (weighing: of other than 1 to 16).
     BadStore = 6,
     /// Weighing: a rule number other than 1 or 2 (02, C-11: after refusal 6).
     BadRule = 11,
+    /// Words that hold no state of the program (02, C-14: after refusal 6).
+    BadState = 13,
     /// A free variable.
     FreeVariable = 7,
     /// Not finished.
@@ -83,6 +88,25 @@ fn header(used: &[u8], kind: u16) -> Result<u32, Refusal> {
         return Err(Refusal::BadHeader);
     }
     Ok(u32::from_le_bytes(word))
+}
+
+/// The deepest nesting that the counting stepper takes (02, C-14).
+const DEPTH_LIMIT: usize = 32;
+
+/// Row 12: the outermost block is 1, each loop or block command within adds 1.
+pub fn depth(program: &Program) -> Result<(), Refusal> {
+    if block_depth(&program.block) > DEPTH_LIMIT {
+        return Err(Refusal::TooDeep);
+    }
+    Ok(())
+}
+
+fn block_depth(block: &Block) -> usize {
+    let within = |command: &Command| match command {
+        Command::Assign(..) => 0,
+        Command::Loop(_, _, inner) | Command::Block(inner) => block_depth(inner),
+    };
+    1 + block.iter().map(within).max().unwrap_or(0)
 }
 
 /// Rows 1 to 5 for a lent buffer: the tree in it, or the first row that applies.

@@ -116,6 +116,26 @@ pub fn program_records() -> Records {
         .collect()
 }
 
+/// The same for the counting stepper (02, C-14): also the deepest that it takes, 31 within the
+/// outermost block.
+pub fn counting_records() -> Records {
+    let in_turns = (0..31).fold(
+        vec![Command::Assign(1, Expr::PlusOne(1))],
+        |inner, n| match n % 2 {
+            0 => vec![Command::Block(inner)],
+            _ => vec![Command::Loop(1, Bound::Literal(2), inner)],
+        },
+    );
+    let deepest = [
+        ("31 nested blocks", nest_of_blocks(1, 31)),
+        ("31 nested loops", nest_of_loops(1, 1, 31)),
+        ("31 loops and blocks", program(1, in_turns)),
+    ];
+    let all = deepest.into_iter().chain(programs());
+    all.map(|(name, program)| (name, program.encode()))
+        .collect()
+}
+
 pub fn term_records() -> Records {
     let all = terms().into_iter();
     all.map(|(name, term)| (name, term.encode())).collect()

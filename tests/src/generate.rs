@@ -1,10 +1,12 @@
-//! Seeded generators: sound programs and terms, damaged records, stores, budgets, lists of runs.
+//! Seeded generators: sound programs and terms, damaged records, stores, budgets, lists of runs, states of
+//! the counting stepper.
 
 pub mod damage;
 pub mod lending;
 pub mod programs;
 pub mod raw;
 pub mod runs;
+pub mod states;
 pub mod terms;
 
 /// A buffer of `len` bytes with the record in front. What is behind it is not zero: it must not

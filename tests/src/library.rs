@@ -5,9 +5,11 @@
 //!
 //! Safety, for every call in here: each pointer goes with the length of the slice that it is taken
 //! from, the slice lives until the call returns, and Rust's own rules keep a written slice apart
-//! from every other. That is what the header asks of a caller.
+//! from every other. A state's length does not go over: its type has it. That is what the header asks
+//! of a caller.
 
 mod check;
+mod counting;
 mod ran;
 mod reducer;
 mod stepper;
@@ -15,6 +17,7 @@ mod terms;
 mod weigh;
 
 pub use check::{check_program, check_term};
+pub use counting::{expand, run_counting};
 pub use reducer::run_reducer;
 pub use stepper::run_stepper;
 pub use terms::{read_back, result, substitute, translate};

@@ -1,5 +1,6 @@
 //! The run that both engines share (01, "Run orders").
 
+pub mod counting;
 pub mod reducer;
 pub mod stepper;
 

@@ -11,8 +11,11 @@ mod every_call;
 
 use std::arch::asm;
 
+use crate::calls;
 use crate::extremes::Records;
 use crate::generate::lend;
+use crate::generate::states::held;
+use crate::run::counting::words::{Words, STATE_WORDS};
 use crate::tree::with_big_stack;
 use every_call::every_call;
 
@@ -58,6 +61,7 @@ pub struct Slices {
     pub used: usize,
     pub out: Vec<u8>,
     pub store: Vec<u32>,
+    pub state: Box<Words>,
 }
 
 impl Slices {
@@ -68,8 +72,26 @@ impl Slices {
             used: record.len(),
             out: vec![0; 16_384],
             store: vec![3; usize::from(record[4])],
+            state: fullest_state(record),
         }
     }
+}
+
+/// Of the counting states that the record's first steps lead to, the one that holds most open; all
+/// zeros where the record is none of a program that the counting stepper takes.
+fn fullest_state(record: &[u8]) -> Box<Words> {
+    let (mut state, mut fullest) = ([0; STATE_WORDS], [0; STATE_WORDS]);
+    let mut store = vec![3; usize::from(record[4])];
+    for _ in 0..200 {
+        let counted = calls::run_counting(record, record.len(), &mut state, &mut store, 1);
+        if held(&state) > held(&fullest) {
+            fullest = state;
+        }
+        if counted.steps == 0 {
+            break;
+        }
+    }
+    Box::new(fullest)
 }
 
 /// A call of the library, and the same call of the other program; both give the number.

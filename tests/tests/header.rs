@@ -6,6 +6,7 @@ use std::fs;
 use std::path::Path;
 
 use other::check::{Refusal, BUFFER_LIMIT};
+use other::run::counting::words::STATE_WORDS;
 use other::run::Outcome;
 
 fn header() -> String {
@@ -42,7 +43,7 @@ fn in_capitals(name: impl std::fmt::Debug) -> String {
     capitals
 }
 
-/// In the table's order, which the header promises: 11 stands behind 6.
+/// In the table's order, which the header promises: 12 stands behind 5, and 11 and 13 behind 6.
 #[test]
 fn the_refusals_have_their_numbers_in_the_order_of_the_table() {
     let mut wanted = vec![("ACCEPTED".to_string(), 0)];
@@ -52,8 +53,10 @@ fn the_refusals_have_their_numbers_in_the_order_of_the_table() {
         Refusal::BadK,
         Refusal::Malformed,
         Refusal::BadVariable,
+        Refusal::TooDeep,
         Refusal::BadStore,
         Refusal::BadRule,
+        Refusal::BadState,
         Refusal::FreeVariable,
         Refusal::Unfinished,
         Refusal::NoProgram,
@@ -85,7 +88,7 @@ fn the_rules_have_02s_numbers() {
 }
 
 /// What the calls answer, field by field: callers in another language declare it anew. 02, C-13 adds the
-/// two counts.
+/// two counts, C-14 a run that writes no buffer.
 #[test]
 fn the_answers_have_their_fields() {
     let ran = "uint32_t number, outcome, steps, left, used;";
@@ -96,6 +99,7 @@ fn the_answers_have_their_fields() {
         ("substituted", "uint32_t number, used, replaced;"),
         ("ran", ran),
         ("reduced", &reduced),
+        ("counted", "uint32_t number, outcome, steps, left;"),
     ];
     for (name, fields) in answers {
         let line = format!("\ntypedef struct {{ {fields} }} vistrokk_{name};\n");
@@ -109,10 +113,24 @@ fn the_answers_have_their_fields() {
         ("substituted", "substitute"),
         ("ran", "run_stepper"),
         ("reduced", "run_reducer"),
+        ("counted", "run_counting"),
+        ("written", "expand"),
     ];
     for (answer, call) in calls {
         let start = format!("\nvistrokk_{answer} vistrokk_{call}(");
         assert!(header().contains(&start), "{call}");
+    }
+}
+
+/// 02, C-14: the state's length, which goes over in no call; a run writes it, the writing out does not.
+#[test]
+fn a_state_has_189_words() {
+    let line = format!("\nenum {{ VISTROKK_STATE_WORDS = {STATE_WORDS} }};\n");
+    assert!(header().contains(&line));
+    assert_eq!(STATE_WORDS, 189);
+    for (how, store) in [("", ""), ("const ", "const ")] {
+        let state = format!("{how}uint32_t state[VISTROKK_STATE_WORDS], {store}uint32_t *store, ");
+        assert_eq!(header().matches(&format!(" {state}")).count(), 1, "{state}");
     }
 }
 

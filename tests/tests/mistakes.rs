@@ -1,10 +1,16 @@
-//! 01's "Mistakes that pass a quick trial", and those that 02's count of replaced variables (C-13)
-//! leaves room for, each with the value that the rules give.
+//! 01's "Mistakes that pass a quick trial", and those that 02's count of replaced variables (C-13) and
+//! its loops carried as counts (C-14) leave room for, each with the value that the rules give.
 
-use other::both::{run_reducer, run_stepper, substitute as substitute_over_bytes};
+use other::both::{
+    expand, run_counting, run_reducer, run_stepper, substitute as substitute_over_bytes,
+};
 use other::codec::Record;
-use other::examples::program;
+use other::examples::{nest_of_blocks, nest_of_loops, program};
 use other::generate::lend;
+use other::generate::states::{
+    at_zero, block as open_block, body, index, unrolling, waiting, words,
+};
+use other::run::counting::words::{Words, STATE_WORDS};
 use other::run::stepper::Config;
 use other::run::{run, Outcome};
 use other::substitute::{substitute, values_of};
@@ -251,4 +257,158 @@ fn a_run_counts_its_own_reductions_all_of_them() {
     assert_eq!(count(&[5]), (1, vec![2]));
     assert_eq!(count(&[0, 4, 0, 1, 0]), (1, vec![0, 1, 0, 1, 0]));
     assert_eq!(count(&[3, 2]), (1, vec![0, 2]));
+}
+
+/// What is left of a state and a store after so many steps of the counting stepper.
+fn counted(block: Block, state: Words, store: &[u32], budget: u32) -> (u32, Words, Vec<u32>) {
+    let record = program(store.len() as u32, block).encode();
+    let (mut state, mut store) = (state, store.to_vec());
+    let counted = run_counting(&record, record.len(), &mut state, &mut store, budget);
+    (counted.number, state, store)
+}
+
+/// The block that is written out for a state.
+fn expanded(block: Block, state: Words, store: &[u32]) -> Block {
+    let record = program(store.len() as u32, block).encode();
+    let mut out = vec![0xA5; ROOM];
+    let written = expand(&record, record.len(), &state, store, &mut out);
+    assert_eq!(written.number, 0);
+    let out = Program::decode(&out[..written.used as usize]);
+    out.expect("a program").block
+}
+
+const START: Words = [0; STATE_WORDS];
+
+fn empty_loop(turns: u32) -> Block {
+    vec![Command::Loop(1, Bound::Literal(turns), vec![])]
+}
+
+/// Reached one off in the expansion: {for x1 := 1 to 2 {}} has literal 1 left in it after one step,
+/// before x1 := 2. In its first turn only x1 := 2 is to come, and in its last nothing is.
+#[test]
+fn the_expansion_has_the_count_reached() {
+    let state = words(0, &[unrolling(0, 2, 1)]);
+    assert_eq!(counted(empty_loop(2), START, &[9], 1), (0, state, vec![9]));
+    let one_left = Command::Loop(1, Bound::Literal(1), vec![]);
+    let last = || assign(1, Expr::Literal(2));
+    let unrolled = vec![Command::Block(vec![one_left, last()])];
+    assert_eq!(expanded(empty_loop(2), state, &[9]), unrolled);
+    let first = Command::Block(vec![assign(1, Expr::Literal(1))]);
+    let state = words(0, &[index(0, 2, 1)]);
+    let in_first = vec![Command::Block(vec![first, last()])];
+    assert_eq!(expanded(empty_loop(2), state, &[9]), in_first);
+    let state = words(0, &[index(0, 2, 2)]);
+    let in_last = vec![Command::Block(vec![last()])];
+    assert_eq!(expanded(empty_loop(2), state, &[9]), in_last);
+}
+
+/// The index stored before its turn counts: {for x1 := 1 to 2 {}} on 9. The loop of 0 becomes an
+/// empty block, that goes, and only the next step stores 1. So it is between the turns: the empty
+/// block goes, and 2 is stored by the next.
+#[test]
+fn the_index_is_stored_in_its_own_step() {
+    let step = |state, store: u32| counted(empty_loop(2), state, &[store], 1);
+    let first = words(0, &[index(0, 2, 1)]);
+    assert_eq!(step(words(0, &[at_zero(0, 2)]), 9), (0, first, vec![9]));
+    let in_first = words(0, &[body(0, 2, 1, 20)]);
+    assert_eq!(step(first, 9), (0, in_first, vec![1]));
+    let second = words(0, &[index(0, 2, 2)]);
+    assert_eq!(step(in_first, 1), (0, second, vec![1]));
+    let in_second = words(0, &[body(0, 2, 2, 20)]);
+    assert_eq!(step(second, 1), (0, in_second, vec![2]));
+}
+
+/// An entry gone one turn early, or one late: at the end of the last turn but one the loop stays, at
+/// the end of the last it goes, and with no turns it goes at 0.
+#[test]
+fn a_loop_goes_after_its_last_turn() {
+    let step = |entry| counted(empty_loop(2), words(0, &[entry]), &[9], 1).1;
+    assert_eq!(step(body(0, 2, 1, 20)), words(0, &[index(0, 2, 2)]));
+    assert_eq!(step(body(0, 2, 2, 20)), words(20, &[]));
+    assert_eq!(step(at_zero(0, 1)), words(0, &[index(0, 1, 1)]));
+    assert_eq!(step(at_zero(0, 0)), words(20, &[]));
+    // Two turns of two steps behind two unrollings and two steps at 0.
+    let (_, state, store) = counted(empty_loop(2), START, &[9], 7);
+    assert_eq!((state, store), (words(0, &[body(0, 2, 2, 20)]), vec![2]));
+}
+
+/// 13 before 6: with a store too short and a state that is none it is 6.
+#[test]
+fn the_store_is_looked_at_before_the_state() {
+    let number = |store: &[u32], state| {
+        let record = program(1, empty_loop(2)).encode();
+        let (mut state, mut store) = (state, store.to_vec());
+        run_counting(&record, record.len(), &mut state, &mut store, 1).number
+    };
+    let none = words(1, &[]);
+    assert_eq!(number(&[9], none), 13);
+    assert_eq!(number(&[], none), 6);
+    assert_eq!(number(&[9, 9], none), 6);
+}
+
+/// 33 deep taken, or 32 refused: the outermost block is 1.
+#[test]
+fn the_deepest_is_32() {
+    for (within, number) in [(31, 0), (32, 12)] {
+        let nested = [nest_of_blocks(1, within), nest_of_loops(1, 1, within)];
+        for nested in nested {
+            assert_eq!(counted(nested.block, START, &[9], 0).0, number);
+        }
+    }
+}
+
+/// An unrolling loop with something open taken: {for x1 := 1 to 2 {{x1 := 5}}}, whose body's block
+/// stands at 20. In a turn it may be open.
+#[test]
+fn nothing_is_open_in_an_unrolling_loop() {
+    let number = |entry| {
+        let inner = Command::Block(vec![assign(1, Expr::Literal(5))]);
+        let block = vec![Command::Loop(1, Bound::Literal(2), vec![inner])];
+        let state = words(0, &[entry, open_block(20, 24)]);
+        counted(block, state, &[9], 0).0
+    };
+    assert_eq!(number(body(0, 2, 1, 20)), 0);
+    assert_eq!(number(unrolling(0, 2, 1)), 13);
+    assert_eq!(number(at_zero(0, 2)), 13);
+    assert_eq!(number(index(0, 2, 1)), 13);
+}
+
+/// The sum stored at once, or worked out again when it is stored: {x1 := x1 + 1} on 5 waits with 6,
+/// and the store is unchanged. Lent with another value of x1 by then, it is 6 all the same.
+#[test]
+fn a_sum_waits_for_its_own_step() {
+    for (expr, sum) in [(Expr::PlusOne(1), 6), (Expr::MinusOne(1), 4)] {
+        let block = || vec![assign(1, expr)];
+        let waits = waiting(START, sum);
+        assert_eq!(counted(block(), START, &[5], 1), (0, waits, vec![5]));
+        assert_eq!(
+            counted(block(), waits, &[5], 1),
+            (0, words(16, &[]), vec![sum])
+        );
+        assert_eq!(
+            counted(block(), waits, &[70], 1),
+            (0, words(16, &[]), vec![sum])
+        );
+    }
+}
+
+/// A word that the state does not hold handed out as it came: the sum where none waits, a block's
+/// counts, and all behind the last entry, also in 0 steps. Of a waiting sum and of running it only
+/// matters that they are not 0.
+#[test]
+fn what_is_not_held_is_0() {
+    let block = || vec![Command::Block(vec![assign(1, Expr::PlusOne(1))])];
+    let tidy = words(0, &[open_block(0, 4)]);
+    let mut lent = tidy;
+    lent[2] = 7; // No sum waits.
+    lent[5..8].fill(8); // A block has no counts.
+    lent[10..].fill(9); // The entry at 9 is none.
+    assert_eq!(counted(block(), lent, &[5], 0), (0, tidy, vec![5]));
+    (lent[1], lent[2]) = (300, 0);
+    let waits = waiting(tidy, 0);
+    assert_eq!(counted(block(), lent, &[5], 0), (0, waits, vec![5]));
+    let tidy = words(0, &[at_zero(0, 2)]);
+    let mut lent = tidy;
+    lent[7] = u32::MAX;
+    assert_eq!(counted(empty_loop(2), lent, &[9], 0), (0, tidy, vec![9]));
 }

@@ -4,6 +4,9 @@ use mathlib.Core.Path.{refl, _≡_}
 use mathlib.Core.Bool.{true}
 use mathlib.Core.List.{List, map}
 use mathlib.Core.Option.{none}
+use Rattle.counting.specs.CountingCall.{countingRows, expandRows}
+use Rattle.counting.proofs.CountingRanLaws.{counting-number, counting-refused}
+use Rattle.counting.proofs.ExpandCallLaws.{expand-number, expand-refused}
 use Rattle.record.specs.Answers.{checkProgramRows, checkTermRows}
 use Rattle.record.specs.Rows.{Row, firstRow}
 use Rattle.record.specs.Table.{Place, numbersAt}
@@ -35,6 +38,8 @@ demand1 = record {
   reducerNumber = λ buf used budget. numbers (reducerRows buf used) _ refl refl (reducer-number buf used budget);
   resultNumber = λ buf used store. numbers (resultRows buf used store) _ refl refl (result-number buf used store);
   weighNumber = λ rule gross tare store. numbers (weighRows rule store) _ refl refl (weigh-number rule gross tare store);
+  countingNumber = λ buf used words store budget. numbers (countingRows buf used words store) _ refl refl (counting-number buf used words store budget);
+  expandNumber = λ buf used words store out. numbers (expandRows buf used words store out) _ refl refl (expand-number buf used words store out);
   checkProgramRefused = check-program-refused;
   checkTermRefused = check-term-refused;
   translateRefused = translate-refused;
@@ -44,4 +49,6 @@ demand1 = record {
   reducerRefused = reducer-refused;
   resultRefused = result-refused;
   weighRefused = weigh-refused;
+  countingRefused = counting-refused;
+  expandRefused = expand-refused;
 }

@@ -6,6 +6,7 @@ use mathlib.Core.Bool.{false}
 use Rattle.record.specs.declared.Header.{Header}
 use Rattle.record.specs.Header.{largestOf, okOf}
 use Rattle.stepper.specs.RunStepper.{steps}
+use Rattle.counting.proofs.CountingMeaningLaws.{counting-means}
 use Rattle.record.proofs.HoldingLaws.{check-program, check-term}
 use Rattle.record.proofs.RowMeaningLaws.{rows-mean}
 use Rattle.reducer.proofs.RunReducerLaws.{reducer-ran}
@@ -42,6 +43,7 @@ demand2 = record {
   rowsMean = rows-mean;
   callsMean = calls-mean;
   weighMeans = weigh-means;
+  countingMeans = counting-means;
   checksProgram = check-program;
   checksTerm = check-term;
   runsStepper = λ hd P buf used store budget h l e hs. stepper-ran h l store e hs budget;

@@ -1,14 +1,25 @@
--- A list of orders: each engine stands as many steps from its start as its total says, and its buffer holds that state.
+-- A list of orders: each engine stands as many steps from its start as its total says, and holds that state.
 use Prim.Native.Nat.{suc, zero, ℕ, _≤_}
 use mathlib.Core.Path.{ap, refl, subst, sym, _∙_, _≡_}
+use mathlib.Core.Bool.{Bool}
 use mathlib.Core.List.{List, [], _∷_}
-use lib.ListN.{length}
+use mathlib.Core.Option.{some}
+use lib.ListN.{length, take}
 use native.Mathlib.Nat.{add-zero}
 use native.Mathlib.Omega.{arith}
+use Rattle.counting.specs.CountStep.{countStep}
+use Rattle.counting.specs.Counting.{Counting, expandConfig, start}
+use Rattle.counting.specs.CountingCall.{countingRows, runCounting}
+use Rattle.counting.specs.CountingMeaning.{Accepts}
+use Rattle.counting.specs.CountingRan.{Words}
+use Rattle.counting.specs.ReadState.{right}
+use Rattle.counting.specs.StateWords.{decodeState}
+use Rattle.counting.proofs.CountingRanLaws.{CountingTakes, counting-number, counting-ran, counting-refused, counting-rows, counting-takes}
 use Rattle.record.specs.declared.Header.{Header}
-use Rattle.record.specs.Header.{okOf}
+use Rattle.record.specs.Header.{encodeProgram, okOf}
 use Rattle.record.specs.Holding.{ProgramIn, TermIn}
-use Rattle.record.specs.Rows.{firstRow, holds}
+use Rattle.record.specs.Rows.{firstRow}
+use Rattle.record.proofs.HoldingLaws.{program-elsewhere, program-size}
 use Rattle.reducer.specs.RunReducer.{reducerRows, runReducer}
 use Rattle.rules.specs.FreeVariables.{noVars}
 use Rattle.rules.specs.Play.{Each, Moves, Stands}
@@ -17,7 +28,8 @@ use Rattle.rules.specs.Replaced.{ReductionsReplacing}
 use Rattle.rules.specs.Run.{iterate}
 use Rattle.rules.specs.Sound.{SmallValues, SoundConfig}
 use Rattle.rules.specs.Step.{step}
-use Rattle.rules.specs.Syntax.{Config, Term}
+use Rattle.rules.specs.Substitution.{stateOf}
+use Rattle.rules.specs.Syntax.{Answer, Block, Config, Term}
 use Rattle.run.specs.RunAnswer.{refusal}
 use Rattle.stepper.specs.RunStepper.{runStepper, stepperRows}
 use Rattle.reducer.proofs.RunReducerLaws.{reducer-ran, reducer-refused, reducer-takes}
@@ -25,19 +37,7 @@ use Rattle.rules.proofs.PlayLaws.{stands-plays}
 use Rattle.rules.proofs.ReplacedLaws.{replacing-add}
 use Rattle.stepper.proofs.RunStepperLaws.{stepper-ran, stepper-refused, stepper-takes}
 use Rattle.agreement.specs.Examples.{budget}
-use Rattle.agreement.specs.Orders.{AllAllowed, Allowed, Lent, Order, World, afterReducer, afterStepper, lentStore, order, other, own, play, storeAfter, toReducer, toStepper, usedAfter}
-
--- WHAT THE WORLD HOLDS: a sound configuration in the stepper's buffer and the store, a sound closed term in the reducer's buffer
-
-pub record StepperHolds (hd : Header) (w : World) (c : Config) : Type 0 where
-  pub program : ProgramIn hd (c .block) (w .stepperBuf) (w .stepperUsed)
-  pub store : w .store ≡ c .store
-  pub sound : SoundConfig (okOf hd) (hd .k) c
-
--- and the reducer's totals are those of the rules' reductions from t₀ to the term
-pub record ReducerHolds (hd : Header) (t₀ : Term) (w : World) (t : Term) : Type 0 where
-  pub term : TermIn noVars hd t (w .reducerBuf) (w .reducerUsed)
-  pub counted : ReductionsReplacing (okOf hd) t₀ (w .reducerTotal) (w .reducerReplaced) t
+use Rattle.agreement.specs.Orders.{AllAllowed, Allowed, AllowedLent, CountedMemory, Engine, Lent, Memory, Order, OrderTo, Played, RecordedMemory, ReducerMemory, Standing, World, advanced, afterCounted, afterRecorded, afterReducer, change, counted, order, other, own, ownAfter, play, played, playedCounted, playedRecorded, playedReducer, recorded, reduces, steps, to, usedAfter, valuesLent}
 
 -- where a number is 0 and where it is not
 by-number : {P : Type 0} (n : ℕ) → (n ≡ 0 → P) → ((n ≡ 0 → ⊥) → P) → P
@@ -53,151 +53,296 @@ unfolding usedAfter
 used-refused zero new before h = absurd (h refl)
 used-refused (suc m) new before h = refl
 
--- A REFUSED ORDER leaves the world as it was
-refused-stepper : (w : World) (lent : Lent) (m : ℕ) → (m ≡ 0 → ⊥)
-    → afterStepper w lent (record { answer = refusal m; buf = w .stepperBuf; store = lentStore w lent }) ≡ w
-unfolding afterStepper storeAfter lentStore
-refused-stepper w own m h = rw (used-refused m 0 (w .stepperUsed) h, add-zero (w .stepperTotal)) refl
-refused-stepper w (other xs) m h = rw (used-refused m 0 (w .stepperUsed) h, add-zero (w .stepperTotal)) refl
+-- AN ORDER IN THE WORLD is one to the engine e, or leaves it where it stands
+reach : (e : Engine) (w : World) (o : Order) {C : Order → Type 0} → ((p : OrderTo e) → order w (to e p) e ≡ advanced (w e) (played e ((w e) .memory) p) → C (to e p))
+    → ((p : Order) → order w p e ≡ w e → C p) → C o
+unfolding order change
+reach (steps recorded) w (to (steps recorded) p) f g = f p refl
+reach (steps recorded) w (to (steps counted) p) f g = g (to (steps counted) p) refl
+reach (steps recorded) w (to reduces p) f g = g (to reduces p) refl
+reach (steps counted) w (to (steps recorded) p) f g = g (to (steps recorded) p) refl
+reach (steps counted) w (to (steps counted) p) f g = f p refl
+reach (steps counted) w (to reduces p) f g = g (to reduces p) refl
+reach reduces w (to (steps recorded) p) f g = g (to (steps recorded) p) refl
+reach reduces w (to (steps counted) p) f g = g (to (steps counted) p) refl
+reach reduces w (to reduces p) f g = f p refl
 
--- the reducer's numbers being what they were, the world is
-same-numbers : (w : World) (used total replaced : ℕ) → used ≡ w .reducerUsed → total ≡ w .reducerTotal → replaced ≡ w .reducerReplaced → record {
-  stepperBuf = w .stepperBuf;
-  store = w .store;
-  stepperUsed = w .stepperUsed;
-  stepperTotal = w .stepperTotal;
-  reducerBuf = w .reducerBuf;
-  reducerUsed = used;
-  reducerTotal = total;
-  reducerReplaced = replaced;
-} ≡ w
-same-numbers w used total replaced a b c = rw (a, b, c) refl
+-- ANY ENGINE, with its machine f and what it is to hold a state of that
 
-refused-reducer : (w : World) (m : ℕ) → (m ≡ 0 → ⊥) → afterReducer w (record { answer = refusal m; replaced = 0; buf = w .reducerBuf }) ≡ w
-unfolding afterReducer
-refused-reducer w m h = same-numbers w _ _ _ (used-refused m 0 (w .reducerUsed) h) (add-zero (w .reducerTotal)) (add-zero (w .reducerReplaced))
+module _ (e : Engine) {A : Type 0} (f : A → Answer A) (Holds : Standing (Memory e) → A → Type 0) where
+  abbrev pub totalIn : World → ℕ
+  totalIn w = (w e) .total
 
-module _ (hd : Header) where
-  -- THE STEPPER'S SIDE of one order
+  abbrev pub HoldsIn : World → A → Type 0
+  HoldsIn w a = Holds (w e) a
 
-  abbrev pub StepperMoves : World → Order → Config → Type 0
-  StepperMoves = Moves (step (okOf hd)) (λ (w : World). w .stepperTotal) order (StepperHolds hd)
+  abbrev pub MovesIn : World → Order → A → Type 0
+  MovesIn = Moves f totalIn order HoldsIn
 
-  -- nothing has moved
-  stepper-stays : (w : World) (o : Order) (c : Config) → StepperHolds hd w c → order w o ≡ w → StepperMoves w o c
-  unfolding iterate
-  stepper-stays w o c h e = record {
-    state = c;
-    count = 0;
-    counted = ap (λ (v : World). v .stepperTotal) e ∙ sym (add-zero (w .stepperTotal));
-    stepped = refl;
-    holds = subst (λ v. StepperHolds hd v c) (sym e) h;
+  abbrev pub StandsIn : A → World → Type 0
+  StandsIn = Stands f totalIn order HoldsIn
+
+  -- one order makes the steps that it counts, and leaves the state after them
+  pub record Moved (s : Standing (Memory e)) (o : OrderTo e) (a : A) : Type 0 where
+    pub state : A
+    pub stepped : iterate f ((played e (s .memory) o) .count) a ≡ some state
+    pub holds : Holds (advanced s (played e (s .memory) o)) state
+
+  -- a refused one leaves all as it was
+  stays : (s : Standing (Memory e)) (o : OrderTo e) (a : A) → Holds s a → played e (s .memory) o ≡ record { memory = s .memory; count = 0 } → Moved s o a
+  unfolding iterate advanced
+  stays s o a h q = record {
+    state = a;
+    stepped = ap (λ (p : Played (Memory e)). iterate f (p .count) a) q;
+    holds =
+        subst (λ (p : Played (Memory e)). Holds (advanced s p) a) (sym q)
+        (subst (λ (n : ℕ). Holds (record { memory = s .memory; total = n }) a) (sym (add-zero (s .total))) h);
   }
 
+  own-order : (w : World) (o : OrderTo e) (a : A) → order w (to e o) e ≡ advanced (w e) (played e ((w e) .memory) o) → Moved (w e) o a → MovesIn w (to e o) a
+  unfolding advanced
+  own-order w o a q m = record {
+    state = m .state;
+    count = (played e ((w e) .memory) o) .count;
+    counted = ap (λ (s : Standing (Memory e)). s .total) q;
+    stepped = m .stepped;
+    holds = subst (λ (s : Standing (Memory e)). Holds s (m .state)) (sym q) (m .holds);
+  }
+
+  others-order : (w : World) (o : Order) (a : A) → order w o e ≡ w e → HoldsIn w a → MovesIn w o a
+  unfolding iterate
+  others-order w o a q h = record {
+    state = a;
+    count = 0;
+    counted = ap (λ (s : Standing (Memory e)). s .total) q ∙ sym (add-zero ((w e) .total));
+    stepped = refl;
+    holds = subst (λ (s : Standing (Memory e)). Holds s a) (sym q) h;
+  }
+
+  -- so it is after every list of orders, where it is after one to the engine itself
+  module _ (May : Order → Type 0) (law : (s : Standing (Memory e)) (o : OrderTo e) (a : A) → May (to e o) → Holds s a → Moved s o a) where
+    moves-in : (w : World) (o : Order) (a : A) → May o → HoldsIn w a → MovesIn w o a
+    moves-in w o a =
+        reach e w o {C = λ (p : Order). May p → HoldsIn w a → MovesIn w p a} (λ p q m h. own-order w p a q (law (w e) p a m h)) (λ p q m h. others-order w p a q h)
+
+    pub stands-in : (begin : A) (os : List Order) (w : World) → Each May os → StandsIn begin w → StandsIn begin (play w os)
+    stands-in = stands-plays f totalIn order HoldsIn May moves-in
+
+-- 01's STEPPER
+
+module _ (hd : Header) where
+  -- a sound configuration, in its buffer and its store
+  pub record RecordedHolds (s : Standing RecordedMemory) (c : Config) : Type 0 where
+    pub program : ProgramIn hd (c .block) (s .memory .buf) (s .memory .used)
+    pub store : s .memory .store ≡ c .store
+    pub sound : SoundConfig (okOf hd) (hd .k) c
+
+  abbrev RecordedMoved : Standing RecordedMemory → OrderTo (steps recorded) → Config → Type 0
+  RecordedMoved = Moved (steps recorded) (step (okOf hd)) RecordedHolds
+
+  recorded-refused : (m : RecordedMemory) (lent : Lent) (n : ℕ) → (n ≡ 0 → ⊥)
+      → playedRecorded m lent (record { answer = refusal n; buf = m .buf; store = valuesLent lent (m .store) }) ≡ record { memory = m; count = 0 }
+  unfolding playedRecorded afterRecorded valuesLent ownAfter
+  recorded-refused m own n h = rw (used-refused n 0 (m .used) h) refl
+  recorded-refused m (other xs) n h = rw (used-refused n 0 (m .used) h) refl
+
   -- an accepted order with the own store
-  stepper-moved : (w : World) (budget : ℕ) (c : Config) → StepperHolds hd w c → length (w .stepperBuf) ≤ 16384 → StepperMoves w (toStepper (w .stepperUsed) own budget) c
-  unfolding order lentStore afterStepper storeAfter
-  stepper-moved w budget c h l =
-      let size : length (w .store) ≡ hd .k = ap length (h .store) ∙ h .sound .variables .size in
-      let values : SmallValues (okOf hd) (w .store) = subst (SmallValues (okOf hd)) (sym (h .store)) (h .sound .values) in
-      let r = stepper-ran (h .program) l (w .store) size values budget in
-      let call = runStepper (w .stepperBuf) (w .stepperUsed) (w .store) budget in
-      let start : record { block = c .block; store = w .store } ≡ c = ap (λ (s : List ℕ). record { block = c .block; store = s }) (h .store) in
-      let used = used-accepted (call .answer .number) (call .answer .used) (w .stepperUsed) (r .ran .number) in
+  recorded-moved : (s : Standing RecordedMemory) (budget : ℕ) (c : Config) → RecordedHolds s c → length (s .memory .buf) ≤ 16384
+      → RecordedMoved s (record { used = s .memory .used; lent = own; budget = budget }) c
+  unfolding played playedRecorded afterRecorded valuesLent ownAfter advanced
+  recorded-moved s budget c h l =
+      let m : RecordedMemory = s .memory in
+      let size : length (m .store) ≡ hd .k = ap length (h .store) ∙ h .sound .variables .size in
+      let values : SmallValues (okOf hd) (m .store) = subst (SmallValues (okOf hd)) (sym (h .store)) (h .sound .values) in
+      let r = stepper-ran (h .program) l (m .store) size values budget in
+      let call = runStepper (m .buf) (m .used) (m .store) budget in
+      let begin : record { block = c .block; store = m .store } ≡ c = ap (λ (x : List ℕ). record { block = c .block; store = x }) (h .store) in
+      let used = used-accepted (call .answer .number) (call .answer .used) (m .used) (r .ran .number) in
       record {
         state = r .c;
-        count = call .answer .steps;
-        counted = refl;
-        stepped = ap (iterate (step (okOf hd)) (call .answer .steps)) (sym start) ∙ r .ran .stepped;
+        stepped = ap (iterate (step (okOf hd)) (call .answer .steps)) (sym begin) ∙ r .ran .stepped;
         holds = record { program = subst (ProgramIn hd (r .c .block) (call .buf)) (sym used) (r .again); store = r .values; sound = r .sound };
       }
 
-  pub stepper-moves : (w : World) (o : Order) (c : Config) → Allowed (hd .k) o → StepperHolds hd w c → StepperMoves w o c
-  unfolding order lentStore afterReducer
-  stepper-moves w (toStepper used own budget) c a h =
-      by-number (firstRow (stepperRows (w .stepperBuf) used (w .store)))
-      (λ z. let t = stepper-takes (h .program) used (w .store) z in
-      subst (λ n. StepperMoves w (toStepper n own budget) c) (sym (t .same)) (stepper-moved w budget c h (t .low)))
-      (λ n. stepper-stays w (toStepper used own budget) c h
-      (ap (afterStepper w own) (stepper-refused (w .stepperBuf) used (w .store) budget n) ∙ refused-stepper w own _ n))
-  stepper-moves w (toStepper used (other xs) budget) c a h =
-      by-number (firstRow (stepperRows (w .stepperBuf) used xs))
+  recorded-order : (s : Standing RecordedMemory) (used : ℕ) (lent : Lent) (budget : ℕ) (c : Config) → AllowedLent (hd .k) lent → RecordedHolds s c
+      → RecordedMoved s (record { used = used; lent = lent; budget = budget }) c
+  unfolding played valuesLent
+  recorded-order s used own budget c a h =
+      by-number (firstRow (stepperRows (s .memory .buf) used (s .memory .store)))
+      (λ z. let t = stepper-takes (h .program) used (s .memory .store) z in
+      subst (λ (n : ℕ). RecordedMoved s (record { used = n; lent = own; budget = budget }) c) (sym (t .same)) (recorded-moved s budget c h (t .low)))
+      (λ n. stays (steps recorded) (step (okOf hd)) RecordedHolds s (record { used = used; lent = own; budget = budget }) c h
+      (ap (playedRecorded (s .memory) own) (stepper-refused (s .memory .buf) used (s .memory .store) budget n) ∙ recorded-refused (s .memory) own _ n))
+  recorded-order s used (other xs) budget c a h =
+      by-number (firstRow (stepperRows (s .memory .buf) used xs))
       (λ z. absurd (a (stepper-takes (h .program) used xs z .values)))
-      (λ n. stepper-stays w (toStepper used (other xs) budget) c h
-      (ap (afterStepper w (other xs)) (stepper-refused (w .stepperBuf) used xs budget n) ∙ refused-stepper w (other xs) _ n))
-  stepper-moves w (toReducer used budget) c a h = unfold iterate in record {
-    state = c;
-    count = 0;
-    counted = sym (add-zero (w .stepperTotal));
-    stepped = refl;
-    holds = record { program = h .program; store = h .store; sound = h .sound };
+      (λ n. stays (steps recorded) (step (okOf hd)) RecordedHolds s (record { used = used; lent = other xs; budget = budget }) c h
+      (ap (playedRecorded (s .memory) (other xs)) (stepper-refused (s .memory .buf) used xs budget n) ∙ recorded-refused (s .memory) (other xs) _ n))
+
+-- THE COUNTING STEPPER, of the program P, whose record some buffer holds
+
+module _ (hd : Header) (P : Block) {cb : List ℕ} {cu : ℕ} (given : ProgramIn hd P cb cu) where
+  -- a state of the program whose words are below 2^32, and which expands to a sound configuration
+  pub record CountedHolds (s : Standing CountedMemory) (c : Counting) : Type 0 where
+    pub state : decodeState P (s .memory .words) ≡ right (c .state)
+    pub store : s .memory .store ≡ c .store
+    pub words : Words (s .memory .words)
+    pub sound : SoundConfig (okOf hd) (hd .k) (expandConfig c)
+
+  abbrev CountedMoved : Standing CountedMemory → OrderTo (steps counted) → Counting → Type 0
+  CountedMoved = Moved (steps counted) (countStep (okOf hd)) CountedHolds
+
+  -- The length of the program's record.
+  abbrev pub long : ℕ
+  long = length (encodeProgram hd P)
+
+  -- a buffer that begins with it
+  pub begins : (buf : List ℕ) → take long buf ≡ encodeProgram hd P → ProgramIn hd P buf long
+  begins buf e =
+      subst (ProgramIn hd P buf) (program-size given) (program-elsewhere given buf (subst (λ (n : ℕ). take n buf ≡ encodeProgram hd P) (sym (program-size given)) e))
+
+  -- what no row refuses, of such a buffer with the words and the store that it holds
+  pub accepts : (s : Standing CountedMemory) (c : Counting) → CountedHolds s c → (buf : List ℕ) → take long buf ≡ encodeProgram hd P
+      → (n : ℕ) → CountingTakes hd P buf long n (s .memory .words) (s .memory .store) → Accepts hd P buf n (s .memory .words) (s .memory .store) (c .state)
+  unfolding expandConfig
+  accepts s c h buf e n t = record {
+    passes = record { program = subst (ProgramIn hd P buf) (sym (t .same)) (begins buf e); low = t .low; deep = t .deep; count = t .count; state = h .state };
+    fit = h .words;
+    values = subst (SmallValues (okOf hd)) (sym (h .store)) (h .sound .values);
   }
 
-  -- AFTER A LIST
+  counted-refused : (m : CountedMemory) (lent : Lent) (n : ℕ)
+      → playedCounted m lent (record { answer = refusal n; words = m .words; store = valuesLent lent (m .store) }) ≡ record { memory = m; count = 0 }
+  unfolding playedCounted afterCounted valuesLent ownAfter
+  counted-refused m own n = refl
+  counted-refused m (other xs) n = refl
 
-  abbrev pub StepperStands : Config → World → Type 0
-  StepperStands = Stands (step (okOf hd)) (λ (w : World). w .stepperTotal) order (StepperHolds hd)
-
-  pub stepper-stands : (c : Config) (os : List Order) (w : World) → AllAllowed (hd .k) os → StepperStands c w → StepperStands c (play w os)
-  stepper-stands = stands-plays (step (okOf hd)) (λ (w : World). w .stepperTotal) order (StepperHolds hd) (Allowed (hd .k)) stepper-moves
-
-module _ (hd : Header) (t₀ : Term) where
-  -- THE REDUCER'S SIDE of one order
-
-  abbrev pub ReducerMoves : World → Order → Term → Type 0
-  ReducerMoves = Moves (reduce (okOf hd)) (λ (w : World). w .reducerTotal) order (ReducerHolds hd t₀)
-
-  reducer-stays : (w : World) (o : Order) (t : Term) → ReducerHolds hd t₀ w t → order w o ≡ w → ReducerMoves w o t
-  unfolding iterate
-  reducer-stays w o t h e = record {
-    state = t;
-    count = 0;
-    counted = ap (λ (v : World). v .reducerTotal) e ∙ sym (add-zero (w .reducerTotal));
-    stepped = refl;
-    holds = subst (λ v. ReducerHolds hd t₀ v t) (sym e) h;
-  }
-
-  reducer-moved : (w : World) (budget : ℕ) (t : Term) → ReducerHolds hd t₀ w t → length (w .reducerBuf) ≤ 16384 → ReducerMoves w (toReducer (w .reducerUsed) budget) t
-  unfolding order afterReducer
-  reducer-moved w budget t h l =
-      let r = reducer-ran (h .term) l budget in
-      let call = runReducer (w .reducerBuf) (w .reducerUsed) budget in
-      let used = used-accepted (call .answer .number) (call .answer .used) (w .reducerUsed) (r .ran .number) in
+  counted-moved : (s : Standing CountedMemory) (buf : List ℕ) (used budget : ℕ) (c : Counting) → CountedHolds s c → take long buf ≡ encodeProgram hd P
+      → CountingTakes hd P buf long used (s .memory .words) (s .memory .store)
+      → CountedMoved s (record { buf = buf; used = used; lent = own; budget = budget }) c
+  unfolding played playedCounted afterCounted valuesLent ownAfter advanced
+  counted-moved s buf used budget c h e t =
+      let m : CountedMemory = s .memory in
+      let call = runCounting buf used (m .words) (m .store) budget in
+      let r = counting-ran (accepts s c h buf e used t) budget in
+      let begin : record { state = c .state; store = m .store } ≡ c = ap (λ (x : List ℕ). record { state = c .state; store = x }) (h .store) in
       record {
-        state = r .t;
-        count = call .answer .steps;
-        counted = refl;
-        stepped = r .ran .stepped;
-        holds = record {
-          term = subst (TermIn noVars hd (r .t) (call .buf)) (sym used) (r .again);
-          counted = replacing-add (okOf hd) (h .counted) (r .replaces);
-        };
+        state = r .c;
+        stepped = ap (iterate (countStep (okOf hd)) (call .answer .steps)) (sym begin) ∙ r .ran .stepped;
+        holds = record { state = r .reads; store = r .values; words = r .fit; sound = r .sound };
       }
 
-  reducer-moves : (w : World) (o : Order) (t : Term) → Unit {0} → ReducerHolds hd t₀ w t → ReducerMoves w o t
-  unfolding order afterStepper
-  reducer-moves w (toStepper used lent budget) t a h = unfold iterate in record {
-    state = t;
-    count = 0;
-    counted = sym (add-zero (w .reducerTotal));
-    stepped = refl;
-    holds = record { term = h .term; counted = h .counted };
-  }
-  reducer-moves w (toReducer used budget) t a h =
-      by-number (firstRow (reducerRows (w .reducerBuf) used))
-      (λ z. let r = reducer-takes (h .term) used z in
-      subst (λ n. ReducerMoves w (toReducer n budget) t) (sym (r .same)) (reducer-moved w budget t h (r .low)))
-      (λ n. reducer-stays w (toReducer used budget) t h
-      (ap (afterReducer w) (reducer-refused (w .reducerBuf) used budget n) ∙ refused-reducer w _ n))
+  -- what its rows let through
+  pub counted-takes : (buf : List ℕ) (used : ℕ) (words store : List ℕ) (budget : ℕ) → take long buf ≡ encodeProgram hd P
+      → (runCounting buf used words store budget) .answer .number ≡ 0 → CountingTakes hd P buf long used words store
+  counted-takes buf used words store budget e z = counting-takes (begins buf e) used words store (counting-rows buf used words store budget z)
 
-  -- AFTER A LIST, whatever is lent to the stepper in it
+  counted-order : (s : Standing CountedMemory) (buf : List ℕ) (used : ℕ) (lent : Lent) (budget : ℕ) (c : Counting) → AllowedLent (hd .k) lent
+      → take long buf ≡ encodeProgram hd P → CountedHolds s c → CountedMoved s (record { buf = buf; used = used; lent = lent; budget = budget }) c
+  unfolding played valuesLent
+  counted-order s buf used own budget c a e h =
+      let m : CountedMemory = s .memory in
+      by-number (firstRow (countingRows buf used (m .words) (m .store)))
+      (λ z. counted-moved s buf used budget c h e (counted-takes buf used (m .words) (m .store) budget e (counting-number buf used (m .words) (m .store) budget ∙ z)))
+      (λ n. stays (steps counted) (countStep (okOf hd)) CountedHolds s (record { buf = buf; used = used; lent = own; budget = budget }) c h
+      (ap (playedCounted m own) (counting-refused buf used (m .words) (m .store) budget n) ∙ counted-refused m own _))
+  counted-order s buf used (other xs) budget c a e h =
+      let m : CountedMemory = s .memory in
+      by-number (firstRow (countingRows buf used (m .words) xs))
+      (λ z. absurd (a (counted-takes buf used (m .words) xs budget e (counting-number buf used (m .words) xs budget ∙ z) .count)))
+      (λ n. stays (steps counted) (countStep (okOf hd)) CountedHolds s (record { buf = buf; used = used; lent = other xs; budget = budget }) c h
+      (ap (playedCounted m (other xs)) (counting-refused buf used (m .words) xs budget n) ∙ counted-refused m (other xs) _))
+
+-- THE REDUCER, from the closed term t₀
+
+module _ (hd : Header) (t₀ : Term) where
+  -- a sound closed term in its buffer; its totals are those of the rules' reductions from t₀ to the term
+  pub record ReducerHolds (s : Standing ReducerMemory) (t : Term) : Type 0 where
+    pub term : TermIn noVars hd t (s .memory .buf) (s .memory .used)
+    pub counted : ReductionsReplacing (okOf hd) t₀ (s .total) (s .memory .replaced) t
+
+  abbrev ReducerMoved : Standing ReducerMemory → OrderTo reduces → Term → Type 0
+  ReducerMoved = Moved reduces (reduce (okOf hd)) ReducerHolds
+
+  -- its numbers being what they were, all is
+  same-numbers : (m : ReducerMemory) (used replaced : ℕ) → used ≡ m .used → replaced ≡ m .replaced
+      → _≡_ {A = Played ReducerMemory} (record { memory = record { buf = m .buf; used = used; replaced = replaced }; count = 0 }) (record { memory = m; count = 0 })
+  same-numbers m used replaced a b = rw (a, b) refl
+
+  reducer-stayed : (m : ReducerMemory) (n : ℕ) → (n ≡ 0 → ⊥)
+      → playedReducer m (record { answer = refusal n; replaced = 0; buf = m .buf }) ≡ record { memory = m; count = 0 }
+  unfolding playedReducer afterReducer
+  reducer-stayed m n h = same-numbers m _ _ (used-refused n 0 (m .used) h) (add-zero (m .replaced))
+
+  reducer-moved : (s : Standing ReducerMemory) (budget : ℕ) (t : Term) → ReducerHolds s t → length (s .memory .buf) ≤ 16384
+      → ReducerMoved s (record { used = s .memory .used; budget = budget }) t
+  unfolding played playedReducer afterReducer advanced
+  reducer-moved s budget t h l =
+      let m : ReducerMemory = s .memory in
+      let r = reducer-ran (h .term) l budget in
+      let call = runReducer (m .buf) (m .used) budget in
+      let used = used-accepted (call .answer .number) (call .answer .used) (m .used) (r .ran .number) in
+      record {
+        state = r .t;
+        stepped = r .ran .stepped;
+        holds = record { term = subst (TermIn noVars hd (r .t) (call .buf)) (sym used) (r .again); counted = replacing-add (okOf hd) (h .counted) (r .replaces) };
+      }
+
+  reducer-order : (s : Standing ReducerMemory) (o : OrderTo reduces) (t : Term) → Unit {0} → ReducerHolds s t → ReducerMoved s o t
+  unfolding played
+  reducer-order s o t a h =
+      by-number (firstRow (reducerRows (s .memory .buf) (o .used)))
+      (λ z. let r = reducer-takes (h .term) (o .used) z in
+      subst (λ (n : ℕ). ReducerMoved s (record { used = n; budget = o .budget }) t) (sym (r .same)) (reducer-moved s (o .budget) t h (r .low)))
+      (λ n. stays reduces (reduce (okOf hd)) ReducerHolds s o t h
+      (ap (playedReducer (s .memory)) (reducer-refused (s .memory .buf) (o .used) (o .budget) n) ∙ reducer-stayed (s .memory) _ n))
+
+  -- AFTER A LIST, whatever is lent to the steppers in it
 
   abbrev pub ReducerStands : World → Type 0
-  ReducerStands = Stands (reduce (okOf hd)) (λ (w : World). w .reducerTotal) order (ReducerHolds hd t₀) t₀
+  ReducerStands = StandsIn reduces (reduce (okOf hd)) ReducerHolds t₀
 
   pub reducer-stands : (os : List Order) (w : World) → ReducerStands w → ReducerStands (play w os)
-  reducer-stands os w = stands-plays (reduce (okOf hd)) (λ (w : World). w .reducerTotal) order (ReducerHolds hd t₀) (λ o. Unit {0}) reducer-moves t₀ os w (each-any os)
+  reducer-stands os w = stands-in reduces (reduce (okOf hd)) ReducerHolds (λ (o : Order). Unit {0}) reducer-order t₀ os w (each-any os)
     where
       each-any : (os : List Order) → Each (λ (o : Order). Unit {0}) os
       each-any [] = tt
       each-any (o ∷ os) = (tt, each-any os)
+
+-- ALL OF THEM, from the program P and the store μ
+
+-- A state of each engine's machine.
+abbrev pub At : Engine → Type 0
+At (steps recorded) = Config
+At (steps counted) = Counting
+At reduces = Term
+
+abbrev pub machine : (ℕ → Bool) → (e : Engine) → At e → Answer (At e)
+machine ok (steps recorded) = step ok
+machine ok (steps counted) = countStep ok
+machine ok reduces = reduce ok
+
+module _ (hd : Header) (P : Block) (μ : List ℕ) {cb : List ℕ} {cu : ℕ} (given : ProgramIn hd P cb cu) where
+  -- Where each starts.
+  abbrev pub starts : (e : Engine) → At e
+  starts (steps recorded) = record { block = P; store = μ }
+  starts (steps counted) = record { state = start P; store = μ }
+  starts reduces = stateOf (hd .k) (record { block = P; store = μ })
+
+  abbrev pub Holds : (e : Engine) → Standing (Memory e) → At e → Type 0
+  Holds (steps recorded) s c = RecordedHolds hd s c
+  Holds (steps counted) s c = CountedHolds hd P given s c
+  Holds reduces s t = ReducerHolds hd (starts reduces) s t
+
+  -- The engine stands as many steps from its start as its total says.
+  abbrev pub StandsFrom : (e : Engine) → World → Type 0
+  StandsFrom e = StandsIn e (machine (okOf hd) e) (Holds e) (starts e)
+
+  order-to : (e : Engine) (s : Standing (Memory e)) (o : OrderTo e) (a : At e) → Allowed (hd .k) (encodeProgram hd P) (to e o) → Holds e s a
+      → Moved e (machine (okOf hd) e) (Holds e) s o a
+  order-to (steps recorded) s o c a h = recorded-order hd s (o .used) (o .lent) (o .budget) c a h
+  order-to (steps counted) s o c a h = counted-order hd P given s (o .buf) (o .used) (o .lent) (o .budget) c (a .0) (a .1) h
+  order-to reduces s o t a h = reducer-order hd (starts reduces) s o t a h
+
+  pub stands : (e : Engine) (os : List Order) (w : World) → AllAllowed (hd .k) (encodeProgram hd P) os → StandsFrom e w → StandsFrom e (play w os)
+  stands e = stands-in e (machine (okOf hd) e) (Holds e) (Allowed (hd .k) (encodeProgram hd P)) (order-to e) (starts e)

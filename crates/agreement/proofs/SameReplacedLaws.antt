@@ -10,8 +10,8 @@ use Rattle.rules.specs.Run.{iterate}
 use Rattle.rules.specs.Substitution.{stateOf}
 use Rattle.rules.specs.Syntax.{Block, Term}
 use Rattle.rules.proofs.ReplacedLaws.{replacing-same}
-use Rattle.agreement.specs.Demand3.{Start, startWorld}
-use Rattle.agreement.specs.Orders.{World, play}
+use Rattle.agreement.specs.Demand3.{Start, begun, startWorld}
+use Rattle.agreement.specs.Orders.{World, play, reduces}
 use Rattle.agreement.specs.SameReplaced.{ReplacedByRules, SameReplaced, StartsFrom}
 use Rattle.agreement.proofs.Demand3Laws.{reducer-term}
 use Rattle.agreement.proofs.Play.{ReducerStands, reducer-stands}
@@ -23,7 +23,7 @@ starts {h} {t} {w} s = record {
   reached = ap (λ n. iterate (reduce (okOf h)) n t) (s .noSteps);
   holds = record {
     term = s .holds;
-    counted = subst (λ n. ReductionsReplacing (okOf h) t (w .reducerTotal) n t) (sym (s .noneReplaced)) (subst (λ i. ReductionsReplacing (okOf h) t i 0 t) (sym (s .noSteps)) done);
+    counted = subst (λ n. ReductionsReplacing (okOf h) t ((w reduces) .total) n t) (sym (s .noneReplaced)) (subst (λ i. ReductionsReplacing (okOf h) t i 0 t) (sym (s .noSteps)) done);
   };
 }
 
@@ -38,8 +38,9 @@ unfolding SameReplaced ReplacedByRules
 same-replaced h g t w v s r os ps e =
     let one = replaced-by-rules h t w s os in
     let two = replaced-by-rules g t v r ps in
-    replacing-same (subst (λ i. ReductionsReplacing (okOf h) t i ((play w os) .reducerReplaced) (one .0)) e (one .1)) (two .1)
+    replacing-same (subst (λ i. ReductionsReplacing (okOf h) t i ((play w os reduces) .memory .replaced) (one .0)) e (one .1)) (two .1)
 
 -- the start's own substitution is in no total
 pub start-starts : (h : Header) (P : Block) (μ : List ℕ) (s : Start h P μ) → StartsFrom h (stateOf (h .k) (record { block = P; store = μ })) (startWorld h P μ s)
+unfolding begun
 start-starts h P μ s = record { holds = reducer-term h P μ s; noSteps = refl; noneReplaced = refl }

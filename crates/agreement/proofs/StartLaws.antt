@@ -1,9 +1,17 @@
 -- The engines take every store of k values that pass, and with it demand 3 starts.
-use Prim.Native.Nat.{ℕ, _≤_}
+use Prim.Native.Nat.{suc, zero, ℕ, _≤_}
 use mathlib.Core.Path.{ap, refl, subst, sym, _∙_, _≡_}
 use mathlib.Core.List.{List}
-use lib.ListN.{length, take}
+use lib.Dec.{lit<}
+use lib.ListN.{length, replicate, take}
 use native.Mathlib.Omega.{arith}
+use Rattle.counting.specs.Counting.{start as begin}
+use Rattle.counting.specs.CountingCall.{countingRows, runCounting}
+use Rattle.counting.specs.CountingMeaning.{Passes}
+use Rattle.counting.specs.CountingRan.{Words}
+use Rattle.counting.specs.Depth.{nesting}
+use Rattle.counting.proofs.CountingRanLaws.{counting-number, counting-passes}
+use Rattle.counting.proofs.StateWordsLaws.{decode-start}
 use Rattle.record.specs.Answers.{Checked, Wrote, checkProgram, padded}
 use Rattle.record.specs.declared.Header.{Header}
 use Rattle.record.specs.Header.{encodeProgram, encodeTerm, okOf}
@@ -20,12 +28,17 @@ use Rattle.term.specs.Calls.{Substituted, substituteCall, translateCall}
 use Rattle.record.proofs.HeaderLaws.{ok-limit}
 use Rattle.record.proofs.HoldingLaws.{checked-fits, checked-holds, checked-low, padded-term, program-elsewhere}
 use Rattle.record.proofs.PaddedLaws.{length-padded}
+use Rattle.record.proofs.RowLaws.{none-first}
 use Rattle.reducer.proofs.RunReducerLaws.{reducer-number, reducer-passes}
 use Rattle.rules.proofs.SoundTermLaws.{sound-stateOf, sound-translate}
 use Rattle.stepper.proofs.RunStepperLaws.{stepper-number, stepper-passes}
 use Rattle.term.proofs.CallLaws.{substitute-gives, substitute-size, translate-holds, translate-length, translate-out, translate-writes}
 use Rattle.agreement.specs.Demand3.{Start}
 use Rattle.agreement.specs.WeighedStore.{EnginesTake, TermLent}
+
+pub zero-words : (n : ℕ) → Words (replicate n 0)
+zero-words zero = tt
+zero-words (suc n) = (lit< tt, zero-words n)
 
 -- OF A PROGRAM that the checker accepts
 module _ (h : Header) (P : Block) (cb : List ℕ) (cu : ℕ) (checked : checkProgram cb cu ≡ record { number = 0; k = h .k })
@@ -111,10 +124,24 @@ module _ (h : Header) (P : Block) (cb : List ℕ) (cu : ℕ) (checked : checkPro
         reducerBegins = same ∙ left;
       }
 
+    -- the counting stepper, from the words of the start
+    counts : (buf : List ℕ) (budget : ℕ) → length buf ≤ 16384 → take cu buf ≡ take cu cb → nesting P ≤ 32 → (runCounting buf cu (replicate 189 0) μ budget) .answer .number ≡ 0
+    counts buf budget l e deep =
+        let lent : Passes h P buf cu (replicate 189 0) μ (begin P) = record {
+          program = program-elsewhere program-holds buf (e ∙ program);
+          low = l;
+          deep = deep;
+          count = size;
+          state = decode-start P;
+        } in
+        counting-number buf cu (replicate 189 0) μ budget
+        ∙ none-first (countingRows buf cu (replicate 189 0) μ) (counting-passes lent (replicate 189 0) μ (begin P) (decode-start P) size)
+
     pub engines-take : EnginesTake h P cb cu μ
     unfolding start
     engines-take = record {
       stepper = λ buf budget l e. stepper-number buf cu μ budget ∙ stepper-passes (program-elsewhere program-holds buf (e ∙ program)) l μ size;
+      counting = counts;
       substitutes = λ buf used t. ap (λ (w : Substituted). w .number) (gives buf used t);
       translates = translates;
       reducer = reduces;

@@ -1,13 +1,21 @@
--- WITNESSES, by computing. Demand 3's hypotheses can be met: a start, and a list with refused orders in it after which the two totals
--- are equal; and those of C-11's theorem about weighed stores. And the two engines' room may give out at different totals.
+-- WITNESSES, by computing. Demand 3's hypotheses can be met: a start, and a list of orders to the three engines with refused ones in it
+-- after which their totals are equal; and those of C-11's theorem about weighed stores. And the two engines' room may give out at different totals.
 use Prim.Native.Nat.{ℕ}
 use mathlib.Core.Path.{refl, sym, _∙_, _≡_}
 use mathlib.Core.List.{_++_, List, [], _∷_}
 use lib.Dec.{lit<, lit≤}
-use lib.ListN.{replicate}
+use lib.ListN.{length, replicate, take}
 use native.Mathlib.Omega.{arith}
 use Rattle.buffer.specs.LittleEndian.{le, val}
-use Rattle.record.specs.Answers.{checkProgram, checkTerm, checkedBy, padded, storedBy, wroteBy}
+use Rattle.counting.specs.CountStep.{countStep, enterLoop, stepHere, stepIn, stepState, stepSum, turnDone}
+use Rattle.counting.specs.Counting.{expand, turnsAround}
+use Rattle.counting.specs.CountingCall.{badState, countedTo, countingBy, expandCall, orStart, runCounting, tooDeep}
+use Rattle.counting.specs.Depth.{depthWithin, nesting}
+use Rattle.counting.specs.Held.{around, blockNumbers, heldBlock, heldLoop, leftAtBlock, leftAtLoop, numbers, shutAt, turnNumbers}
+use Rattle.counting.specs.Place.{placeOf, restAt}
+use Rattle.counting.specs.ReadState.{check, holding, isLast, isRight, onRest, readHere, readLoop, readNumbers, readOpen, readShut, readState, readSum, readWaiting}
+use Rattle.counting.specs.StateWords.{decodeState, encodeState, heldAt, heldFrom, heldWords, packed, unlessNone, unpacked}
+use Rattle.record.specs.Answers.{Wrote, checkProgram, checkTerm, checkedBy, padded, storedBy, tooShort, wroteBy}
 use Rattle.record.specs.Fix.{fixed, fuelled}
 use Rattle.record.specs.Header.{blockBytes, blockIn, contents, contentsAt, encodeProgram, encodeTerm, fieldsOf, headed, kField, kindField, kindOf, largestOf, lengthField, termIn}
 use Rattle.record.specs.Program.{blockSize, boundFrom, boundKind, boundNumber, commandKind, decodeBlock, decodeBlockPart, decodeBlockStep, decodeCommand, encodeBlock, exprFrom, exprKind, exprNumber}
@@ -29,19 +37,21 @@ use Rattle.rules.specs.Substitution.{except, fromStore, only, orRef, stateOf, s
 use Rattle.rules.specs.Translation.{atomOf, refs, simpleOf, translate}
 use Rattle.run.specs.RunAnswer.{outcomeNumber, roomFor}
 use Rattle.stepper.specs.RunStepper.{runStepper, steppedTo, stepperBy}
-use Rattle.term.specs.Calls.{noSource, numerals, readBackCall, resultCall, substituteCall, substituted, substitutedBy, tooShort, translateCall}
-use Rattle.agreement.specs.Demand3.{Agree, Demand3, Start, startWorld}
+use Rattle.term.specs.Calls.{noSource, numerals, readBackCall, resultCall, substituteCall, substituted, substitutedBy, translateCall}
+use Rattle.agreement.specs.Demand3.{Agree, Agreement, Demand3Either, Start, begun, startWorld}
 use Rattle.agreement.specs.Examples.{acceptedValues, add, budget, configOf, endingOfReducer, endingOfStepper, expected, examples, ofVariables, programBytesOf, reducerEnding, reducerExpected, shown, shownBy, shownFrom, stepperEnding, substitutedOf, translatedOf}
-use Rattle.agreement.specs.Orders.{Order, afterReducer, afterStepper, lentStore, order, other, own, play, storeAfter, toReducer, toStepper, usedAfter}
+use Rattle.agreement.specs.GoingBack.{GoingBack, wentBack, writtenOut}
+use Rattle.agreement.specs.Orders.{AllAllowed, Order, Stepper, World, advanced, afterCounted, afterRecorded, afterReducer, change, counted, order, other, own, ownAfter, play, played, playedCounted, playedRecorded, playedReducer, recorded, reduces, steps, toCounting, toReducer, toStepper, usedAfter, valuesLent}
 use Rattle.agreement.specs.RoomsDiffer.{RoomsDiffer}
 use Rattle.agreement.specs.WeighedStore.{EnginesTake, WeighedStore}
 use Rattle.weighing.specs.Weigh.{badRule, badSize, countOf, netLoad, weighCall, weighed}
-use Rattle.agreement.proofs.Demand3Laws.{demand3}
+use Rattle.agreement.proofs.Demand3Laws.{demand3-either}
+use Rattle.agreement.proofs.GoingBackLaws.{going-back}
 use Rattle.agreement.proofs.WeighedStoreLaws.{weighed-store}
 
 -- P1, in a stepper's buffer of 160 bytes and a reducer's of 400, with nines behind the records
 pub witness : Start (ofVariables 4) add (7 ∷ 3 ∷ 0 ∷ 0 ∷ [])
-unfolding adding closedAtom closedAtoms closedSimple closedIn closed plays sameAtom sameAtoms exprOf boundOf sourceLetOne sourceLetAll sourceRec source blockOfSource readBack valueOf unrollRec reduceInside reduceLetOne reduce onNext orStop iterate outcomeOf stop oneMore goOn runOn run inRange exprInRange boundInRange blockInRange atomInRange atomsInRange simpleInRange termInRange boundValue unrollLoop stepInside stepAssign stepBlock step upTo minusOne lookup update fromStore only except orRef substituteAtom substituteSimple substitute stateOf refs simpleOf atomOf translate le val padded checkedBy checkProgram checkTerm wroteBy storedBy fuelled fixed lengthField kindField kField kindOf largestOf fieldsOf contentsAt contents headed blockBytes encodeTermRecord blockIn termIn encodeProgram encodeTerm exprKind exprNumber boundKind boundNumber exprFrom boundFrom encodeBlock blockSize commandKind decodeCommand decodeBlockPart decodeBlockStep decodeBlock then bind atEnd fromSome pick word ofKind subOf sub encodeLeaf leafOf leaf anyRecordOf anyRecord encodeRecord cut split pickRow firstRow isNone holds orElse tooLong badBuffer badHeader badK badBlock badTerm blockOutside termOutside badStore openTerm finishedTerm unfinished atomKind atomNumber atomFrom encodeAtoms decodeAtoms simpleKindIf encodeSimple simpleSize onlyAtom plainOf simpleBy simpleFrom readSimple kindOfTerm termContents termSize termKindIf termKind lastTerm decodeTermKind decodeTermStep measureTerm decodeTerm outcomeNumber roomFor tooShort translateCall noSource readBackCall substituteCall substitutedBy numerals resultCall steppedTo stepperBy runStepper reducedTo reducerBy runReducer shownBy budget stepperEnding reducerEnding configOf programBytesOf translatedOf substitutedOf endingOfStepper acceptedValues endingOfReducer shownFrom shown reducerExpected expected examples lentStore storeAfter usedAfter afterStepper afterReducer order
+unfolding adding closedAtom closedAtoms closedSimple closedIn closed plays sameAtom sameAtoms exprOf boundOf sourceLetOne sourceLetAll sourceRec source blockOfSource readBack valueOf unrollRec reduceInside reduceLetOne reduce onNext orStop iterate outcomeOf stop oneMore goOn runOn run inRange exprInRange boundInRange blockInRange atomInRange atomsInRange simpleInRange termInRange boundValue unrollLoop stepInside stepAssign stepBlock step upTo minusOne lookup update fromStore only except orRef substituteAtom substituteSimple substitute stateOf refs simpleOf atomOf translate le val padded checkedBy checkProgram checkTerm wroteBy storedBy fuelled fixed lengthField kindField kField kindOf largestOf fieldsOf contentsAt contents headed blockBytes encodeTermRecord blockIn termIn encodeProgram encodeTerm exprKind exprNumber boundKind boundNumber exprFrom boundFrom encodeBlock blockSize commandKind decodeCommand decodeBlockPart decodeBlockStep decodeBlock then bind atEnd fromSome pick word ofKind subOf sub encodeLeaf leafOf leaf anyRecordOf anyRecord encodeRecord cut split pickRow firstRow isNone holds orElse tooLong badBuffer badHeader badK badBlock badTerm blockOutside termOutside badStore openTerm finishedTerm unfinished atomKind atomNumber atomFrom encodeAtoms decodeAtoms simpleKindIf encodeSimple simpleSize onlyAtom plainOf simpleBy simpleFrom readSimple kindOfTerm termContents termSize termKindIf termKind lastTerm decodeTermKind decodeTermStep measureTerm decodeTerm outcomeNumber roomFor tooShort translateCall noSource readBackCall substituteCall substitutedBy numerals resultCall steppedTo stepperBy runStepper reducedTo reducerBy runReducer shownBy budget stepperEnding reducerEnding configOf programBytesOf translatedOf substitutedOf endingOfStepper acceptedValues endingOfReducer shownFrom shown reducerExpected expected examples
 witness = record {
   checkBuf = encodeProgram (ofVariables 4) add;
   checkUsed = 64;
@@ -64,32 +74,88 @@ witness = record {
     nines : ℕ → List ℕ
     nines n = replicate n 9
 
--- the third order's used length is not the second's, the fourth lends no values, the last has a wrong used length
+-- THE LIST: of 01's stepper the second order's used length is not the one that the first gave, and the third lends no values; of the
+-- counting stepper each order is lent the program in another buffer, the second has a wrong used length, and the third lends no
+-- values; the reducer's second has a wrong used length
+abbrev program : List ℕ
+program = encodeProgram (ofVariables 4) add
+
 abbrev orders : List Order
 orders = toStepper 64 own 5
+    ∷ toCounting program 64 own 4
     ∷ toReducer 172 7
     ∷ toStepper 64 own 9
+    ∷ toCounting program 63 own 9
     ∷ toStepper 124 (other []) 9
+    ∷ toCounting program 64 (other []) 9
     ∷ toStepper 124 own 2
     ∷ toReducer 5 9
+    ∷ toCounting (program ++ program) 64 own 3
     ∷ []
 
+-- the world after it
+abbrev after : World
+after = play (startWorld (ofVariables 4) add (7 ∷ 3 ∷ 0 ∷ 0 ∷ []) witness) orders
+
 pub record Totals : Type 0 where
-  pub stepper : (play (startWorld (ofVariables 4) add (7 ∷ 3 ∷ 0 ∷ 0 ∷ []) witness) orders) .stepperTotal ≡ 7
-  pub reducer : (play (startWorld (ofVariables 4) add (7 ∷ 3 ∷ 0 ∷ 0 ∷ []) witness) orders) .reducerTotal ≡ 7
+  pub stepper : (after (steps recorded)) .total ≡ 7
+  pub counting : (after (steps counted)) .total ≡ 7
+  pub reducer : (after reduces) .total ≡ 7
   -- x3 := x1 replaces 1, four unrollings none, the first turn's let-all 3 and its index 1
-  pub replaced : (play (startWorld (ofVariables 4) add (7 ∷ 3 ∷ 0 ∷ 0 ∷ []) witness) orders) .reducerReplaced ≡ 5
+  pub replaced : (after reduces) .memory .replaced ≡ 5
+  -- the counting stepper stands within the loop at 16, its top 3, in the turn 1, at the place 36 of its body
+  pub words : (after (steps counted)) .memory .words ≡ (16 ∷ 0 ∷ 0 ∷ 2 ∷ 16 ∷ 3 ∷ 1 ∷ 1 ∷ 38 ∷ []) ++ replicate 180 0
 
 pub totals : Totals
-unfolding witness adding closedAtom closedAtoms closedSimple closedIn closed plays sameAtom sameAtoms exprOf boundOf sourceLetOne sourceLetAll sourceRec source blockOfSource readBack valueOf unrollRec reduceInside reduceLetOne reduce onNext orStop iterate outcomeOf stop oneMore goOn runOn run inRange exprInRange boundInRange blockInRange atomInRange atomsInRange simpleInRange termInRange boundValue unrollLoop stepInside stepAssign stepBlock step upTo minusOne lookup update fromStore only except orRef substituteAtom substituteSimple substitute stateOf refs simpleOf atomOf translate le val padded checkedBy checkProgram checkTerm wroteBy storedBy fuelled fixed lengthField kindField kField kindOf largestOf fieldsOf contentsAt contents headed blockBytes encodeTermRecord blockIn termIn encodeProgram encodeTerm exprKind exprNumber boundKind boundNumber exprFrom boundFrom encodeBlock blockSize commandKind decodeCommand decodeBlockPart decodeBlockStep decodeBlock then bind atEnd fromSome pick word ofKind subOf sub encodeLeaf leafOf leaf anyRecordOf anyRecord encodeRecord cut split pickRow firstRow isNone holds orElse tooLong badBuffer badHeader badK badBlock badTerm blockOutside termOutside badStore openTerm finishedTerm unfinished atomKind atomNumber atomFrom encodeAtoms decodeAtoms simpleKindIf encodeSimple simpleSize onlyAtom plainOf simpleBy simpleFrom readSimple kindOfTerm termContents termSize termKindIf termKind lastTerm decodeTermKind decodeTermStep measureTerm decodeTerm outcomeNumber roomFor tooShort translateCall noSource readBackCall substituteCall substitutedBy given replaced replacedAtom replacedAtoms replacedSimple replacedLetOne replacedLetAll replacedNext orZero replacedSum numerals resultCall steppedTo stepperBy runStepper reducedTo reducerBy runReducer shownBy budget stepperEnding reducerEnding configOf programBytesOf translatedOf substitutedOf endingOfStepper acceptedValues endingOfReducer shownFrom shown reducerExpected expected examples lentStore storeAfter usedAfter afterStepper afterReducer order
-totals = record { stepper = refl; reducer = refl; replaced = refl }
+unfolding witness adding closedAtom closedAtoms closedSimple closedIn closed plays sameAtom sameAtoms exprOf boundOf sourceLetOne sourceLetAll sourceRec source blockOfSource readBack valueOf unrollRec reduceInside reduceLetOne reduce onNext orStop iterate outcomeOf stop oneMore goOn runOn run inRange exprInRange boundInRange blockInRange atomInRange atomsInRange simpleInRange termInRange boundValue unrollLoop stepInside stepAssign stepBlock step upTo minusOne lookup update fromStore only except orRef substituteAtom substituteSimple substitute stateOf refs simpleOf atomOf translate le val padded checkedBy checkProgram checkTerm wroteBy storedBy fuelled fixed lengthField kindField kField kindOf largestOf fieldsOf contentsAt contents headed blockBytes encodeTermRecord blockIn termIn encodeProgram encodeTerm exprKind exprNumber boundKind boundNumber exprFrom boundFrom encodeBlock blockSize commandKind decodeCommand decodeBlockPart decodeBlockStep decodeBlock then bind atEnd fromSome pick word ofKind subOf sub encodeLeaf leafOf leaf anyRecordOf anyRecord encodeRecord cut split pickRow firstRow isNone holds orElse tooLong badBuffer badHeader badK badBlock badTerm blockOutside termOutside badStore openTerm finishedTerm unfinished atomKind atomNumber atomFrom encodeAtoms decodeAtoms simpleKindIf encodeSimple simpleSize onlyAtom plainOf simpleBy simpleFrom readSimple kindOfTerm termContents termSize termKindIf termKind lastTerm decodeTermKind decodeTermStep measureTerm decodeTerm outcomeNumber roomFor tooShort translateCall noSource readBackCall substituteCall substitutedBy given replaced replacedAtom replacedAtoms replacedSimple replacedLetOne replacedLetAll replacedNext orZero replacedSum numerals resultCall steppedTo stepperBy runStepper reducedTo reducerBy runReducer shownBy budget stepperEnding reducerEnding configOf programBytesOf translatedOf substitutedOf endingOfStepper acceptedValues endingOfReducer shownFrom shown reducerExpected expected examples begun valuesLent ownAfter usedAfter afterRecorded afterReducer playedRecorded playedReducer played advanced change order afterCounted playedCounted isRight tooDeep badState orStart countedTo countingBy runCounting stepIn stepSum enterLoop turnDone stepHere stepState countStep depthWithin nesting heldBlock heldLoop around shutAt leftAtLoop leftAtBlock blockNumbers turnNumbers numbers restAt placeOf check onRest isLast readSum readWaiting readHere readShut readLoop readOpen readState readNumbers holding heldWords packed heldAt unlessNone heldFrom unpacked decodeState encodeState
+totals = record { stepper = refl; counting = refl; reducer = refl; replaced = refl; words = refl }
 
--- so the engines agree after that list
-pub agreed : Agree (ofVariables 4) (play (startWorld (ofVariables 4) add (7 ∷ 3 ∷ 0 ∷ 0 ∷ []) witness) orders)
-unfolding Demand3
-agreed =
-    demand3 (ofVariables 4) add (7 ∷ 3 ∷ 0 ∷ 0 ∷ []) witness orders (tt, (tt, (tt, ((λ e. let z : 0 ≡ 4 = e in omega arith), (tt, (tt, tt))))))
-    (totals .stepper ∙ sym (totals .reducer))
+-- a buffer that begins with it
+program-begins : take (length program) program ≡ program
+unfolding witness le encodeProgram headed kindOf fieldsOf blockBytes encodeBlock encodeLeaf encodeRecord exprKind exprNumber boundKind boundNumber
+program-begins = refl
+
+allowed : AllAllowed 4 program orders
+unfolding witness le encodeProgram headed kindOf fieldsOf blockBytes encodeBlock encodeLeaf encodeRecord exprKind exprNumber boundKind boundNumber
+allowed = (tt, ((tt, refl), (tt, (tt, ((tt, refl), (empty-store, ((empty-store, refl), (tt, (tt, ((tt, refl), tt))))))))))
+  where
+    empty-store : _≡_ {A = ℕ} 0 4 → ⊥
+    empty-store e = omega arith
+
+-- so either stepper agrees with the reducer after that list
+pub agreed : (e : Stepper) → Agree (ofVariables 4) add e ((after (steps e)) .memory) ((after reduces) .memory)
+unfolding Demand3Either Agreement
+agreed recorded = demand3-either recorded (ofVariables 4) add (7 ∷ 3 ∷ 0 ∷ 0 ∷ []) witness orders allowed (totals .stepper ∙ sym (totals .reducer))
+agreed counted = demand3-either counted (ofVariables 4) add (7 ∷ 3 ∷ 0 ∷ 0 ∷ []) witness orders allowed (totals .counting ∙ sym (totals .reducer))
+
+-- GOING BACK after that list, with an output buffer as long as the stepper's own: what is written out is what 01's stepper holds; then
+-- both go on to the end
+abbrev written : Wrote
+written = writtenOut after program 64 (replicate 160 9)
+
+abbrev further : List Order
+further = toReducer ((after reduces) .memory .used) 100 ∷ toStepper (written .used) own 100 ∷ []
+
+-- the world gone back to, after those
+abbrev ended : World
+ended = play (wentBack after written) further
+
+pub record Back : Type 0 where
+  pub accepted : written .number ≡ 0
+  pub same : written .written ≡ (after (steps recorded)) .memory .buf
+  pub stepper : (ended (steps recorded)) .total ≡ 18
+  pub reducer : (ended reduces) .total ≡ 18
+  pub values : (ended (steps recorded)) .memory .store ≡ 7 ∷ 3 ∷ 10 ∷ 3 ∷ []
+
+pub back : Back
+unfolding witness adding closedAtom closedAtoms closedSimple closedIn closed plays sameAtom sameAtoms exprOf boundOf sourceLetOne sourceLetAll sourceRec source blockOfSource readBack valueOf unrollRec reduceInside reduceLetOne reduce onNext orStop iterate outcomeOf stop oneMore goOn runOn run inRange exprInRange boundInRange blockInRange atomInRange atomsInRange simpleInRange termInRange boundValue unrollLoop stepInside stepAssign stepBlock step upTo minusOne lookup update fromStore only except orRef substituteAtom substituteSimple substitute stateOf refs simpleOf atomOf translate le val padded checkedBy checkProgram checkTerm wroteBy storedBy fuelled fixed lengthField kindField kField kindOf largestOf fieldsOf contentsAt contents headed blockBytes encodeTermRecord blockIn termIn encodeProgram encodeTerm exprKind exprNumber boundKind boundNumber exprFrom boundFrom encodeBlock blockSize commandKind decodeCommand decodeBlockPart decodeBlockStep decodeBlock then bind atEnd fromSome pick word ofKind subOf sub encodeLeaf leafOf leaf anyRecordOf anyRecord encodeRecord cut split pickRow firstRow isNone holds orElse tooLong badBuffer badHeader badK badBlock badTerm blockOutside termOutside badStore openTerm finishedTerm unfinished atomKind atomNumber atomFrom encodeAtoms decodeAtoms simpleKindIf encodeSimple simpleSize onlyAtom plainOf simpleBy simpleFrom readSimple kindOfTerm termContents termSize termKindIf termKind lastTerm decodeTermKind decodeTermStep measureTerm decodeTerm outcomeNumber roomFor tooShort translateCall noSource readBackCall substituteCall substitutedBy given replaced replacedAtom replacedAtoms replacedSimple replacedLetOne replacedLetAll replacedNext orZero replacedSum numerals resultCall steppedTo stepperBy runStepper reducedTo reducerBy runReducer shownBy budget stepperEnding reducerEnding configOf programBytesOf translatedOf substitutedOf endingOfStepper acceptedValues endingOfReducer shownFrom shown reducerExpected expected examples begun valuesLent ownAfter usedAfter afterRecorded afterReducer playedRecorded playedReducer played advanced change order afterCounted playedCounted isRight tooDeep badState orStart countedTo countingBy runCounting stepIn stepSum enterLoop turnDone stepHere stepState countStep depthWithin nesting heldBlock heldLoop around shutAt leftAtLoop leftAtBlock blockNumbers turnNumbers numbers restAt placeOf check onRest isLast readSum readWaiting readHere readShut readLoop readOpen readState readNumbers holding heldWords packed heldAt unlessNone heldFrom unpacked decodeState encodeState turnsAround expand expandCall wentBack
+back = record { accepted = refl; same = refl; stepper = refl; reducer = refl; values = refl }
+
+-- so it agrees with the reducer there too
+pub agreed-back : Agree (ofVariables 4) add recorded ((ended (steps recorded)) .memory) ((ended reduces) .memory)
+unfolding GoingBack
+agreed-back =
+    going-back (ofVariables 4) add (7 ∷ 3 ∷ 0 ∷ 0 ∷ []) witness orders allowed after refl program 64 (replicate 160 9) program-begins (back .accepted) further (tt, (tt, tt)) .agrees recorded (back .stepper ∙ sym (back .reducer))
 
 -- the whole of P1: its substitution replaces 5 variables, and its 18 reductions 20
 pub record Counts : Type 0 where
@@ -97,7 +163,7 @@ pub record Counts : Type 0 where
   pub run : (runReducer (witness .reducerBuf) 172 budget) .replaced ≡ 20
 
 pub counts : Counts
-unfolding witness adding closedAtom closedAtoms closedSimple closedIn closed plays sameAtom sameAtoms exprOf boundOf sourceLetOne sourceLetAll sourceRec source blockOfSource readBack valueOf unrollRec reduceInside reduceLetOne reduce onNext orStop iterate outcomeOf stop oneMore goOn runOn run inRange exprInRange boundInRange blockInRange atomInRange atomsInRange simpleInRange termInRange boundValue unrollLoop stepInside stepAssign stepBlock step upTo minusOne lookup update fromStore only except orRef substituteAtom substituteSimple substitute stateOf refs simpleOf atomOf translate le val padded checkedBy checkProgram checkTerm wroteBy storedBy fuelled fixed lengthField kindField kField kindOf largestOf fieldsOf contentsAt contents headed blockBytes encodeTermRecord blockIn termIn encodeProgram encodeTerm exprKind exprNumber boundKind boundNumber exprFrom boundFrom encodeBlock blockSize commandKind decodeCommand decodeBlockPart decodeBlockStep decodeBlock then bind atEnd fromSome pick word ofKind subOf sub encodeLeaf leafOf leaf anyRecordOf anyRecord encodeRecord cut split pickRow firstRow isNone holds orElse tooLong badBuffer badHeader badK badBlock badTerm blockOutside termOutside badStore openTerm finishedTerm unfinished atomKind atomNumber atomFrom encodeAtoms decodeAtoms simpleKindIf encodeSimple simpleSize onlyAtom plainOf simpleBy simpleFrom readSimple kindOfTerm termContents termSize termKindIf termKind lastTerm decodeTermKind decodeTermStep measureTerm decodeTerm outcomeNumber roomFor tooShort translateCall noSource readBackCall substituteCall substitutedBy given replaced replacedAtom replacedAtoms replacedSimple replacedLetOne replacedLetAll replacedNext orZero replacedSum numerals resultCall steppedTo stepperBy runStepper reducedTo reducerBy runReducer shownBy budget stepperEnding reducerEnding configOf programBytesOf translatedOf substitutedOf endingOfStepper acceptedValues endingOfReducer shownFrom shown reducerExpected expected examples lentStore storeAfter usedAfter afterStepper afterReducer order
+unfolding witness adding closedAtom closedAtoms closedSimple closedIn closed plays sameAtom sameAtoms exprOf boundOf sourceLetOne sourceLetAll sourceRec source blockOfSource readBack valueOf unrollRec reduceInside reduceLetOne reduce onNext orStop iterate outcomeOf stop oneMore goOn runOn run inRange exprInRange boundInRange blockInRange atomInRange atomsInRange simpleInRange termInRange boundValue unrollLoop stepInside stepAssign stepBlock step upTo minusOne lookup update fromStore only except orRef substituteAtom substituteSimple substitute stateOf refs simpleOf atomOf translate le val padded checkedBy checkProgram checkTerm wroteBy storedBy fuelled fixed lengthField kindField kField kindOf largestOf fieldsOf contentsAt contents headed blockBytes encodeTermRecord blockIn termIn encodeProgram encodeTerm exprKind exprNumber boundKind boundNumber exprFrom boundFrom encodeBlock blockSize commandKind decodeCommand decodeBlockPart decodeBlockStep decodeBlock then bind atEnd fromSome pick word ofKind subOf sub encodeLeaf leafOf leaf anyRecordOf anyRecord encodeRecord cut split pickRow firstRow isNone holds orElse tooLong badBuffer badHeader badK badBlock badTerm blockOutside termOutside badStore openTerm finishedTerm unfinished atomKind atomNumber atomFrom encodeAtoms decodeAtoms simpleKindIf encodeSimple simpleSize onlyAtom plainOf simpleBy simpleFrom readSimple kindOfTerm termContents termSize termKindIf termKind lastTerm decodeTermKind decodeTermStep measureTerm decodeTerm outcomeNumber roomFor tooShort translateCall noSource readBackCall substituteCall substitutedBy given replaced replacedAtom replacedAtoms replacedSimple replacedLetOne replacedLetAll replacedNext orZero replacedSum numerals resultCall steppedTo stepperBy runStepper reducedTo reducerBy runReducer shownBy budget stepperEnding reducerEnding configOf programBytesOf translatedOf substitutedOf endingOfStepper acceptedValues endingOfReducer shownFrom shown reducerExpected expected examples
 counts = record { substitution = refl; run = refl }
 
 -- A WEIGHED STORE: 1,500 kg less 1,370 kg are 10 over six twenties, so 7 by rule 2; into four values, for ADD

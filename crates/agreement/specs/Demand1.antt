@@ -5,6 +5,7 @@ use mathlib.Core.Path.{_≡_}
 use mathlib.Core.Logic.{_↔_, _⊎_}
 use mathlib.Core.Bool.{true}
 use mathlib.Core.List.{List, [], map, _∷_}
+use Rattle.counting.specs.CountingCall.{countingRows, expandCall, expandRows, runCounting}
 use Rattle.record.specs.Answers.{checkProgram, checkProgramRows, checkTerm, checkTermRows}
 use Rattle.record.specs.Rows.{First, NoRow, Row, firstRow}
 use Rattle.record.specs.Table.{Place, inTable, numbersAt}
@@ -29,7 +30,7 @@ pub record Numbers (places : List Place) (rows : List Row) (n : ℕ) : Type 0 wh
   pub none : (n ≡ 0) ↔ NoRow rows
   pub first : First rows n
 
--- The demand, of each of the nine calls and whatever is lent.
+-- The demand, of each of the eleven calls and whatever is lent.
 pub record Demand1 : Type 0 where
   -- every call gives the first row of its own that applies
   pub checkProgramNumber : (buf : List ℕ) (used : ℕ) → Numbers (ofRecord []) (checkProgramRows buf used) ((checkProgram buf used) .number)
@@ -47,6 +48,10 @@ pub record Demand1 : Type 0 where
       → Numbers (ofRecord (table.store ∷ table.result ∷ [])) (resultRows buf used store) ((resultCall buf used store) .number)
   pub weighNumber : (rule gross tare : ℕ) (store : List ℕ)
       → Numbers (table.store ∷ table.weighing ∷ []) (weighRows rule store) ((weighCall rule gross tare store) .number)
+  pub countingNumber : (buf : List ℕ) (used : ℕ) (words store : List ℕ) (budget : ℕ)
+      → Numbers (ofRecord (table.counting ∷ table.store ∷ [])) (countingRows buf used words store) ((runCounting buf used words store budget) .answer .number)
+  pub expandNumber : (buf : List ℕ) (used : ℕ) (words store out : List ℕ)
+      → Numbers (ofRecord (table.counting ∷ table.store ∷ table.writingOut ∷ [])) (expandRows buf used words store out) ((expandCall buf used words store out) .number)
   -- a refusal gives its number and 0 for everything else, and leaves every slice as it came
   pub checkProgramRefused : (buf : List ℕ) (used : ℕ) → (firstRow (checkProgramRows buf used) ≡ 0 → ⊥)
       → checkProgram buf used ≡ record { number = firstRow (checkProgramRows buf used); k = 0 }
@@ -66,3 +71,7 @@ pub record Demand1 : Type 0 where
       → resultCall buf used store ≡ record { number = firstRow (resultRows buf used store); store = store }
   pub weighRefused : (rule gross tare : ℕ) (store : List ℕ) → (firstRow (weighRows rule store) ≡ 0 → ⊥)
       → weighCall rule gross tare store ≡ record { number = firstRow (weighRows rule store); store = store }
+  pub countingRefused : (buf : List ℕ) (used : ℕ) (words store : List ℕ) (budget : ℕ) → (firstRow (countingRows buf used words store) ≡ 0 → ⊥)
+      → runCounting buf used words store budget ≡ record { answer = refusal (firstRow (countingRows buf used words store)); words = words; store = store }
+  pub expandRefused : (buf : List ℕ) (used : ℕ) (words store out : List ℕ) → (firstRow (expandRows buf used words store out) ≡ 0 → ⊥)
+      → expandCall buf used words store out ≡ record { number = firstRow (expandRows buf used words store out); used = 0; written = out }

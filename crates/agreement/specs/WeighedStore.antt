@@ -3,7 +3,9 @@
 use Prim.Native.Nat.{_<_, ℕ, _≤_}
 use mathlib.Core.Path.{_≡_}
 use mathlib.Core.List.{List}
-use lib.ListN.{length, take}
+use lib.ListN.{length, replicate, take}
+use Rattle.counting.specs.CountingCall.{runCounting}
+use Rattle.counting.specs.Depth.{nesting}
 use Rattle.record.specs.Answers.{checkProgram}
 use Rattle.record.specs.declared.Header.{Header}
 use Rattle.record.specs.Header.{encodeProgram, encodeTerm}
@@ -14,7 +16,7 @@ use Rattle.rules.specs.Translation.{translate}
 use Rattle.stepper.specs.RunStepper.{runStepper}
 use Rattle.term.specs.Calls.{substituteCall, translateCall}
 use Rattle.weighing.specs.Weigh.{weighCall}
-use Rattle.agreement.specs.Demand3.{Start, startWorld}
+use Rattle.agreement.specs.Demand3.{Start, begun, startWorld}
 
 -- The record of the program's term stands first in a buffer that is not too long.
 pub record TermLent (h : Header) (P : Block) (buf : List ℕ) (used : ℕ) : Type 0 where
@@ -26,6 +28,9 @@ pub record TermLent (h : Header) (P : Block) (buf : List ℕ) (used : ℕ) : Typ
 pub record EnginesTake (h : Header) (P : Block) (cb : List ℕ) (cu : ℕ) (μ : List ℕ) : Type 0 where
   -- the stepper's run accepts it, with any budget, in every buffer that begins with the program's record and is not too long
   pub stepper : (buf : List ℕ) (budget : ℕ) → length buf ≤ 16384 → take cu buf ≡ take cu cb → (runStepper buf cu μ budget) .answer .number ≡ 0
+  -- the counting stepper's run accepts it too, from the words of the start, where the program is nested no more than 32 deep
+  pub counting : (buf : List ℕ) (budget : ℕ) → length buf ≤ 16384 → take cu buf ≡ take cu cb → nesting P ≤ 32
+      → (runCounting buf cu (replicate 189 0) μ budget) .answer .number ≡ 0
   -- substituting it in the program's term is accepted; and what translate writes, where it accepts, is that term
   pub substitutes : (buf : List ℕ) (used : ℕ) → TermLent h P buf used → (substituteCall buf used μ) .number ≡ 0
   pub translates : (out : List ℕ) → (translateCall cb cu out) .number ≡ 0 → TermLent h P ((translateCall cb cu out) .written) ((translateCall cb cu out) .used)
@@ -36,16 +41,8 @@ pub record EnginesTake (h : Header) (P : Block) (cb : List ℕ) (cu : ℕ) (μ :
   pub start : (buf : List ℕ) (used : ℕ) → TermLent h P buf used → (stepperBuf : List ℕ) → take cu stepperBuf ≡ take cu cb
       → (reducerBuf : List ℕ) → (substituteCall buf used μ) .used ≤ length reducerBuf
       → take ((substituteCall buf used μ) .used) reducerBuf ≡ take ((substituteCall buf used μ) .used) ((substituteCall buf used μ) .written)
-      → (s : Start h P μ) × (startWorld h P μ s ≡ record {
-        stepperBuf = stepperBuf;
-        store = μ;
-        stepperUsed = cu;
-        stepperTotal = 0;
-        reducerBuf = reducerBuf;
-        reducerUsed = (substituteCall buf used μ) .used;
-        reducerTotal = 0;
-        reducerReplaced = 0;
-      })
+      → (s : Start h P μ) × (startWorld h P μ s
+      ≡ begun (record { buf = stepperBuf; used = cu; store = μ }) (record { buf = reducerBuf; used = (substituteCall buf used μ) .used; replaced = 0 }))
 
 -- Of every accepted weighing of a gross that is a value, by whichever rule, and every accepted program of as many variables as it
 -- gives values. (That a program is accepted is said as at demand 3's start.)

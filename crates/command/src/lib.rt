@@ -36,7 +36,7 @@ fn opens(buf: &[u8], p: usize) -> bool
 }
 
 // How many blocks are open around the command that the rules act on. The commands start at `start`.
-fn open_levels(buf: &[u8], start: usize) -> usize
+pub fn open_levels(buf: &[u8], start: usize) -> usize
     requires { ⌜ ((P : Block) × (BlockAt (now buf) start P × (0 < blockSize P))) ⌝ }
     ensures { λ r. ⌜ ((P : Block) → BlockAt (now (buf .entry)) start P → 0 < blockSize P → r ≡ length (path P)) ⌝ }
 {
@@ -70,7 +70,7 @@ fn look_assign(buf: &[u8], at: usize, levels: usize, store: &[u32], largest: u32
 }
 
 // The value of a loop's bound, a literal or a variable.
-fn bound_value(kind: usize, number: u32, store: &[u32]) -> u32
+pub fn bound_value(kind: usize, number: u32, store: &[u32]) -> u32
     requires { ⌜ ((b : Bound) × ((kind ≡ boundKind b) × ((number ≡ boundNumber b) × BoundWithin (length (now store)) b))) ⌝ }
     ensures { λ r. ⌜ ((b : Bound) → kind ≡ boundKind b → number ≡ boundNumber b → r ≡ boundValue (now (store .entry)) b) ⌝ }
 {

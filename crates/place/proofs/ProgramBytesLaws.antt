@@ -37,6 +37,10 @@ unfolding boundKind
 boundKind-range (upto v) = omega arith
 boundKind-range (uptoVar v) = omega arith
 
+pub inc-kind : (y : ℕ) → exprKind (inc y) ≡ 18
+unfolding exprKind
+inc-kind y = refl
+
 pub kind-lit : (e : Expr) → exprKind e ≡ 16 → e ≡ lit (exprNumber e)
 unfolding exprKind exprNumber
 kind-lit (lit v) h = refl

@@ -35,6 +35,15 @@ pub encodeBlock-assign-lead : (x : ℕ) (e : Expr) (r : Block) → encodeBlock (
 unfolding lead
 encodeBlock-assign-lead x e r = encodeBlock-assign x e r ∙ rw (encodeExpr-leaf e) (simp append-assoc)
 
+-- of a literal
+pub encodeBlock-assign-lit : (x v : ℕ) (r : Block) → encodeBlock (assign x (lit v) r) ≡ lead 2 16 x 16 v ++ encodeBlock r
+unfolding exprKind exprNumber
+encodeBlock-assign-lit x v r = encodeBlock-assign-lead x (lit v) r
+
+pub encodeBound-upto : (v : ℕ) → encodeBound (upto v) ≡ leafBytes 16 v
+unfolding boundKind boundNumber
+encodeBound-upto v = encodeBound-leaf (upto v)
+
 -- THE FIRST COMMAND GONE
 
 module _ (l m pre post : List ℕ) (p used : ℕ) (fits : used ≤ length l) (place : length pre ≡ p) where

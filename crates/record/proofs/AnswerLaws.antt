@@ -1,9 +1,13 @@
 -- Laws of the forms of the answers: accepted, refused.
-use Prim.Native.Nat.{suc, zero, ℕ}
-use mathlib.Core.Path.{refl, _≡_}
+use Prim.Native.Nat.{_<_, suc, zero, ℕ, _≤_}
+use mathlib.Core.Path.{ap, refl, _≡_}
+use mathlib.Core.Logic.{_↔_}
+use mathlib.Core.Bool.{false, true}
 use mathlib.Core.List.{List}
+use borrow.Author.Tests.{le-ltb, lt-ltb, ltb-false, ltb-true}
+use lib.Dec.{ltb}
 use lib.ListN.{length}
-use Rattle.record.specs.Answers.{checkProgram, checkProgramRows, checkTerm, checkTermRows, checkedBy, padded, storedBy, wroteBy}
+use Rattle.record.specs.Answers.{checkProgram, checkProgramRows, checkTerm, checkTermRows, checkedBy, padded, storedBy, tooShort, wroteBy}
 use Rattle.record.specs.Rows.{firstRow, kOf}
 
 -- THE CHECKER
@@ -37,6 +41,28 @@ pub wrote-refused : (m : ℕ) (bytes buf : List ℕ) → (m ≡ 0 → ⊥) → w
 unfolding wroteBy
 wrote-refused zero bytes buf h = absurd (h refl)
 wrote-refused (suc m) bytes buf h = refl
+
+-- row 10
+
+pub fits-out : (out answer : List ℕ) → length answer ≤ length out → tooShort out answer ≡ false
+unfolding tooShort
+fits-out out answer h = le-ltb (length out) (length answer) h
+
+pub out-fits : (out answer : List ℕ) → tooShort out answer ≡ false → length answer ≤ length out
+unfolding tooShort
+out-fits out answer e = ltb-false (length out) (length answer) e
+
+pub short-same : (out other answer : List ℕ) → length out ≡ length other → tooShort out answer ≡ tooShort other answer
+unfolding tooShort
+short-same out other answer e = ap (λ (n : ℕ). ltb n (length answer)) e
+
+pub short-out : (out answer : List ℕ) → length out < length answer → tooShort out answer ≡ true
+unfolding tooShort
+short-out out answer h = lt-ltb (length out) (length answer) h
+
+pub ten-iff : (out answer : List ℕ) → (tooShort out answer ≡ true) ↔ (length out < length answer)
+unfolding tooShort
+ten-iff out answer = ((λ e. ltb-true (length out) (length answer) e), (λ h. lt-ltb (length out) (length answer) h))
 
 -- A CALL THAT WRITES A STORE
 

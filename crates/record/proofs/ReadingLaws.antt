@@ -4,7 +4,7 @@ use mathlib.Core.Path.{_≡_, ap, ap₂, refl, subst, sym, _∙_, _≡_}
 use mathlib.Core.Bool.{Bool, false, true}
 use mathlib.Core.List.{_++_, List, [], append-nil, _∷_}
 use mathlib.Core.Option.{Option, none, some}
-use borrow.Author.Tests.{eq-eqb, eqb-true}
+use borrow.Author.Tests.{eq-eqb, eqb-true, ne-eqb}
 use lib.Dec.{eqb}
 use lib.ListN.{length}
 use native.Mathlib.Omega.{arith}
@@ -24,6 +24,15 @@ pick-inv P k n o p f g a e = go (eqb k n) refl e
     go : (t : Bool) → eqb k n ≡ t → pick t o p ≡ some a → P a
     go true t q = f a (eqb-true k n t) q
     go false t q = g a q
+
+-- the number itself, and another
+pub pick-same : {A : Type 0} (a : ℕ) (o p : Option A) → pick (eqb a a) o p ≡ o
+unfolding pick
+pick-same a o p = rw (eq-eqb a a refl) refl
+
+pub pick-other : {A : Type 0} (p a : ℕ) (o q : Option A) → (p ≡ a → ⊥) → pick (eqb p a) o q ≡ q
+unfolding pick
+pick-other p a o q h = rw (ne-eqb p a h) refl
 
 pub none-inv : {A : Type 0} (P : A → Type 0) (a : A) → none ≡ some a → P a
 none-inv P a e = absurd (let z : _≡_ {A = ℕ} 0 1 = cc in omega arith)

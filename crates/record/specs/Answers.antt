@@ -1,6 +1,8 @@
 -- The forms of the answers (01 "Where an order stops"), and the check of a program and of a term.
 use Prim.Native.Nat.{_-_, suc, zero, ℕ}
+use mathlib.Core.Bool.{Bool}
 use mathlib.Core.List.{_++_, List, [], _∷_}
+use lib.Dec.{ltb}
 use lib.ListN.{length, replicate}
 use Rattle.record.specs.Rows.{Row, badBuffer, firstRow, kOf, programRows, row, termRows}
 
@@ -48,6 +50,10 @@ pub record Wrote : Type 0 where
 unfoldable pub wroteBy : ℕ → List ℕ → List ℕ → Wrote
 wroteBy zero bytes buf = record { number = 0; used = length bytes; written = padded (length buf) bytes }
 wroteBy (suc n) bytes buf = record { number = suc n; used = 0; written = buf }
+
+-- 10: the answer is longer than the output buffer
+unfoldable pub tooShort : List ℕ → List ℕ → Bool
+tooShort out answer = ltb (length out) (length answer)
 
 -- A CALL THAT WRITES A STORE: number, and the store afterwards
 

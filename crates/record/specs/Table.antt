@@ -11,11 +11,13 @@ pub data Place : Type 0 where
   header : Place
   records : Place
   store : Place
+  counting : Place
   weighing : Place
   reducer : Place
   result : Place
   readBack : Place
   translator : Place
+  writingOut : Place
 
 -- A row of the table: the places that it names, and its number.
 pub record Entry : Type 0 where
@@ -26,7 +28,7 @@ pub record Entry : Type 0 where
 abbrev pub entry : List Place → ℕ → Entry
 entry ps n = record { places = ps; number = n }
 
--- THE TABLE. Row 11 is C-11's.
+-- THE TABLE. Row 11 is C-11's; 12 and 13 are C-14's, of the counting stepper and of the writing out alone.
 abbrev pub table : List Entry
 table =
     entry (buffers ∷ []) 1
@@ -34,12 +36,14 @@ table =
     ∷ entry (header ∷ []) 3
     ∷ entry (records ∷ []) 4
     ∷ entry (records ∷ []) 5
+    ∷ entry (counting ∷ []) 12
     ∷ entry (store ∷ []) 6
+    ∷ entry (counting ∷ []) 13
     ∷ entry (weighing ∷ []) 11
     ∷ entry (reducer ∷ result ∷ []) 7
     ∷ entry (result ∷ []) 8
     ∷ entry (readBack ∷ []) 9
-    ∷ entry (translator ∷ readBack ∷ []) 10
+    ∷ entry (translator ∷ readBack ∷ writingOut ∷ []) 10
     ∷ []
 
 -- Some element of the list passes the test.
@@ -59,11 +63,13 @@ placeNumber buffers = 0
 placeNumber header = 1
 placeNumber records = 2
 placeNumber store = 3
-placeNumber weighing = 4
-placeNumber reducer = 5
-placeNumber result = 6
-placeNumber readBack = 7
-placeNumber translator = 8
+placeNumber counting = 4
+placeNumber weighing = 5
+placeNumber reducer = 6
+placeNumber result = 7
+placeNumber readBack = 8
+placeNumber translator = 9
+placeNumber writingOut = 10
 
 -- The two places are the same.
 abbrev pub samePlace : Place → Place → Bool

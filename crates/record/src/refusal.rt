@@ -16,8 +16,14 @@ pub const MALFORMED: u32 = 4;
 // A variable number not 1 to k.
 pub const BAD_VARIABLE: u32 = 5;
 
+// Blocks and loops nested over 32 deep (02 C-14).
+pub const TOO_DEEP: u32 = 12;
+
 // A store that has not the number of values asked for.
 pub const BAD_STORE: u32 = 6;
+
+// Words that hold no state of the program (02 C-14).
+pub const BAD_STATE: u32 = 13;
 
 // A rule number of weighing other than 1 or 2 (02 C-11).
 pub const BAD_RULE: u32 = 11;

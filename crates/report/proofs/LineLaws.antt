@@ -1,19 +1,19 @@
 -- THE LINE, by what the calls answer.
 use Prim.Native.Nat.{_*_, _+_, _-_, suc, zero, ℕ, _≤_}
 use mathlib.Core.Path.{ap, refl, sym, _∙_, _≡_}
-use mathlib.Core.Bool.{not, true, _||_}
+use mathlib.Core.Bool.{Bool, not, true, _||_}
 use mathlib.Core.List.{_++_, List, [], _∷_, append-nil}
 use borrow.Author.Tests.{eq-eqb, eqb-true, ltb-false, not-false}
-use lib.Dec.{eqb, ltb}
+use lib.Dec.{eqb}
 use lib.ListN.{drop, length, length-drop, length-replicate, length-take, replicate, take}
 use lib.Seq.{drop-length, length-take-le}
 use native.Mathlib.Omega.{arith}
 use Rattle.buffer.specs.LittleEndian.{val}
 use Rattle.buffer.specs.Slice.{part, put, zeros}
 use Rattle.buffer.proofs.SliceLaws.{length-zeros}
-use Rattle.record.specs.Answers.{Checked, Wrote, checkProgramRows, padded}
+use Rattle.record.specs.Answers.{Checked, Wrote, checkProgramRows, padded, tooShort}
 use Rattle.record.specs.Rows.{NoRow, badBuffer, firstRow, programRows, row, tooLong}
-use Rattle.record.proofs.AnswerLaws.{checked-accepted, checked-number, wrote-accepted}
+use Rattle.record.proofs.AnswerLaws.{checked-accepted, checked-number, short-same, wrote-accepted}
 use Rattle.record.proofs.PaddedLaws.{padded-zeros}
 use Rattle.record.proofs.HeldLaws.{not-long}
 use Rattle.record.proofs.HoldingLaws.{passed-k, passed-length}
@@ -21,7 +21,7 @@ use Rattle.record.proofs.RowLaws.{first-before, first-behind, first-none, first
 use Rattle.reducer.specs.RunReducer.{runReducer}
 use Rattle.run.specs.RunAnswer.{RunAnswer}
 use Rattle.stepper.specs.RunStepper.{runStepper}
-use Rattle.term.specs.Calls.{Substituted, substituteCall, tooShort, translateCall, translateRows, translated}
+use Rattle.term.specs.Calls.{Substituted, substituteCall, translateCall, translateRows, translated}
 use Rattle.term.proofs.CallLaws.{translate-number}
 use Rattle.print.specs.Words.{ranLine, refusedLine}
 use Rattle.report.specs.Line.{inputRows, kOfInput, line, lineBy, lineRows, programBudget, programBuffer, recordOf, reducerFrom, reducerRun, runsLine, saidLength, stepperRun, storeOf, substitutedFrom, termOfInput, valuesIn}
@@ -127,10 +127,10 @@ module _ {input a b behind : List ℕ} {total : ℕ} (h : Reads input a b behind
       rows-behind input (p .whole) _ (p .rows) ∙ first-skips 6 (row6 input .applies) _ (ap not t)
 
   line-number : (out : List ℕ) → length out ≡ programBuffer → firstRow (lineRows input) ≡ (translateCall (recordOf input) (saidLength input) out) .number
-  unfolding tooShort programBuffer
+  unfolding programBuffer
   line-number out e =
       last-row
-      ∙ ap (λ (n : ℕ). firstRow (row 10 (ltb n (length (translated (recordOf input) (saidLength input)))) ∷ [])) (blank ∙ sym e)
+      ∙ ap (λ (t : Bool). firstRow (row 10 t ∷ [])) (short-same (replicate programBuffer 0) out (translated (recordOf input) (saidLength input)) (blank ∙ sym e))
       ∙ sym (translation-rows out (omega arith)) ∙ sym (translate-number (recordOf input) (saidLength input) out)
 
   -- what the calls are given

@@ -5,11 +5,11 @@ use mathlib.Core.List.{List, [], _∷_}
 use lib.Dec.{eqb, ltb}
 use lib.ListN.{drop, length, replicate, take}
 use Rattle.buffer.specs.LittleEndian.{val}
-use Rattle.record.specs.Answers.{Wrote, padded}
+use Rattle.record.specs.Answers.{Wrote, padded, tooShort}
 use Rattle.record.specs.Rows.{Row, firstRow, kOf, programRows, row}
 use Rattle.reducer.specs.RunReducer.{ReducerCall, runReducer}
 use Rattle.stepper.specs.RunStepper.{StepperCall, runStepper}
-use Rattle.term.specs.Calls.{Substituted, substituteCall, tooShort, translateCall, translated}
+use Rattle.term.specs.Calls.{Substituted, substituteCall, translateCall, translated}
 use Rattle.print.specs.Words.{ranLine, refusedLine}
 
 -- THE INPUT: a program record, whose first two bytes say how long it is, and then its k values, 4 bytes each

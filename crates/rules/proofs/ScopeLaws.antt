@@ -131,7 +131,7 @@ WithinAnswer k (finished s) = length s ≡ k
 WithinAnswer k over = Unit {0}
 WithinAnswer k (next c) = ConfigWithin k c
 
-length-update : (s : List ℕ) (x v : ℕ) → length (update s x v) ≡ length s
+pub length-update : (s : List ℕ) (x v : ℕ) → length (update s x v) ≡ length s
 unfolding update
 length-update s zero v = refl
 length-update s (suc i) v = length-set s i v

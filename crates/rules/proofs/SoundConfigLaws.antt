@@ -27,12 +27,12 @@ module _ (ok : ℕ → Bool) (limit : Limit ok) where
   small-getD (w ∷ s) zero hs = hs .0
   small-getD (w ∷ s) (suc i) hs = small-getD s i (hs .1)
 
-  small-update : (s : List ℕ) (x v : ℕ) → SmallValues ok s → ok v ≡ true → SmallValues ok (update s x v)
+  pub small-update : (s : List ℕ) (x v : ℕ) → SmallValues ok s → ok v ≡ true → SmallValues ok (update s x v)
   unfolding update
   small-update s zero v hs hv = hs
   small-update s (suc i) v hs hv = small-set s i v hs hv
 
-  small-lookup : (s : List ℕ) (x : ℕ) → SmallValues ok s → ok (lookup s x) ≡ true
+  pub small-lookup : (s : List ℕ) (x : ℕ) → SmallValues ok s → ok (lookup s x) ≡ true
   unfolding lookup
   small-lookup s zero hs = limit .zeroPasses
   small-lookup s (suc i) hs = small-getD s i hs
@@ -57,7 +57,7 @@ module _ (ok : ℕ → Bool) (limit : Limit ok) where
       test false e = tt
   small-assign x (dec y) r s he hr hs = record { literals = (minusOne-passes ok limit (lookup s y) (small-lookup s y hs), hr); values = hs }
 
-  small-bound : (s : List ℕ) (b : Bound) → SmallBound ok b → SmallValues ok s → ok (boundValue s b) ≡ true
+  pub small-bound : (s : List ℕ) (b : Bound) → SmallBound ok b → SmallValues ok s → ok (boundValue s b) ≡ true
   unfolding boundValue
   small-bound s (upto n) h hs = h
   small-bound s (uptoVar x) h hs = small-lookup s x hs

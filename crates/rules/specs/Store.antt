@@ -20,7 +20,7 @@ pub record Limit (ok : ℕ → Bool) : Type 0 where
   pub zeroPasses : ok 0 ≡ true
   pub belowPasses : (n : ℕ) → ok (suc n) ≡ true → ok n ≡ true
 
--- Minus one, of both engines: 0 minus one is 0 (01 "Stepper", "Reducer"; 003, rule 2).
+-- Minus one, of all engines: 0 minus one is 0 (01 "Stepper", "Reducer"; 003, rule 2).
 unfoldable pub minusOne : ℕ → ℕ
 minusOne n = pred n
 

@@ -1,4 +1,4 @@
--- WHAT AN ACCEPTED RUN ANSWERS (demand 2), of either machine: f is its step, `bytes` the record of a state.
+-- WHAT AN ACCEPTED RUN ANSWERS (demand 2), of any machine: f is its step, `bytes` the record of a state.
 use Prim.Native.Nat.{_+_, _<_, ℕ, _≤_}
 use mathlib.Core.Path.{_≡_}
 use mathlib.Core.Logic.{_↔_}

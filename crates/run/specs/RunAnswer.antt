@@ -1,4 +1,4 @@
--- The answer of a run, and a run in a buffer: what both engines share (01 "Run orders").
+-- The answer of a run, and a run in a buffer: what the engines share (01 "Run orders").
 use Prim.Native.Nat.{_-_, ℕ}
 use mathlib.Core.Bool.{Bool, cond}
 use mathlib.Core.List.{List}

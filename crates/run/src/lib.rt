@@ -1,4 +1,4 @@
-// What the runs of both engines share: the outcome, the tally, and how a run ended.
+// What the runs of all engines share: the outcome, the tally, and how a run ended.
 pub mod value;
 
 ghost use mathlib.Core.Path.{_≡_};

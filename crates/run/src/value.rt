@@ -1,7 +1,7 @@
-// Values and stores, for both engines.
+// Values and stores, for all engines.
 ghost use mathlib.Core.Path.{_≡_};
 ghost use lib.ListN.{length};
-ghost use Rattle.rules.specs.Store.{lookup, minusOne};
+ghost use Rattle.rules.specs.Store.{lookup, minusOne, update};
 ghost use Rattle.rules.specs.Scope.{Within};
 
 // The engines' one place for minus one, with no test for zero (02 C-12): the quotient is 0 of 0 and 1 of every other value. The sum
@@ -20,4 +20,13 @@ pub fn value_of(store: &[u32], variable: u32) -> u32
 {
     let i = (variable - 1) as usize;
     store[i]
+}
+
+// Another value for it.
+pub fn set_value(store: &mut [u32], variable: u32, value: u32)
+    requires { ⌜ Within (length (now store)) variable ⌝ }
+    ensures { λ _. ⌜ now (store .exit) ≡ update (now (store .entry)) variable value ⌝ }
+{
+    let at = (variable - 1) as usize;
+    store[at] = value;
 }

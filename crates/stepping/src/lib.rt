@@ -4,8 +4,6 @@ ghost use mathlib.Core.Path.{_≡_};
 ghost use Prim.Native.Nat.{_+_, _<_, _≤_};
 ghost use lib.ListN.{length};
 ghost use Rattle.rules.specs.Rules.{at};
-ghost use Rattle.rules.specs.Scope.{Within};
-ghost use Rattle.rules.specs.Store.{update};
 ghost use Rattle.rules.specs.Syntax.{Block};
 ghost use Rattle.record.specs.declared.Header.{Header};
 ghost use Rattle.record.specs.Header.{contentsAt, okOf};
@@ -23,15 +21,6 @@ use plan::Rule;
 use record::kind::ASSIGNMENT;
 use record::kind::BLOCK;
 use record::kind::LITERAL;
-
-// The store's first value is variable 1's.
-fn set_value(store: &mut [u32], variable: u32, value: u32)
-    requires { ⌜ Within (length (now store)) variable ⌝ }
-    ensures { λ _. ⌜ now (store .exit) ≡ update (now (store .entry)) variable value ⌝ }
-{
-    let i = (variable - 1) as usize;
-    store[i] = value;
-}
 
 // Rule 8: a loop's record becomes an empty block's, and its other n bytes go.
 fn stop(buf: &mut [u8], at: usize, n: usize, used: usize)
@@ -80,7 +69,7 @@ fn keep_value(store: &mut [u32], p: Plan)
     match rule {
         Rule::Finished => {}
         Rule::Over => {}
-        Rule::Bind => set_value(store, p.variable, p.value),
+        Rule::Bind => run::value::set_value(store, p.variable, p.value),
         Rule::Evaluate => {}
         Rule::Leave => {}
         Rule::Stop => {}

@@ -5,11 +5,11 @@ use mathlib.Core.Logic.{inl, inr, _↔_, _⊎_}
 use mathlib.Core.Bool.{Bool, false, not, true, _||_}
 use mathlib.Core.List.{List, [], _∷_}
 use mathlib.Core.Option.{Option, none, some}
-use borrow.Author.Tests.{le-ltb, leb-false, leb-true, lt-ltb}
+use borrow.Author.Tests.{leb-false, leb-true}
 use lib.Dec.{leb}
 use lib.ListN.{length, take}
 use native.Mathlib.Omega.{arith}
-use Rattle.record.specs.Answers.{Wrote, checkTermRows, padded}
+use Rattle.record.specs.Answers.{Wrote, checkTermRows, padded, tooShort}
 use Rattle.record.specs.declared.Header.{Header}
 use Rattle.record.specs.Header.{HeaderFits, contentsAt, encodeProgram, encodeTerm, okOf}
 use Rattle.record.specs.Holding.{ProgramIn, TermIn}
@@ -20,31 +20,16 @@ use Rattle.rules.specs.Replaced.{replaced}
 use Rattle.rules.specs.Substitution.{fromStore, substitute}
 use Rattle.rules.specs.Syntax.{Block, Term, empty}
 use Rattle.rules.specs.Translation.{translate}
-use Rattle.record.proofs.AnswerLaws.{stored-number, stored-refused, wrote-accepted, wrote-number, wrote-refused}
+use Rattle.record.proofs.AnswerLaws.{fits-out, short-out, stored-number, stored-refused, wrote-accepted, wrote-number, wrote-refused}
 use Rattle.record.proofs.PaddedLaws.{length-padded}
 use Rattle.record.proofs.HeaderLaws.{length-encodeTerm, ok-limit}
 use Rattle.record.proofs.HeldLaws.{not-long, short-buffer, store-good}
 use Rattle.record.proofs.HoldingLaws.{padded-term, program-first, program-header, program-is, store-size, term-first, term-header, term-is, term-k, term-open, term-passes, term-size, term-unfinished}
 use Rattle.record.proofs.RowLaws.{first-applies, first-none, first-skips, isNone-none, isNone-some, none-first, none-split, or-false, or-right, orElse-some}
-use Rattle.record.proofs.RowMeaningLaws.{ltb-iff}
 use Rattle.record.proofs.SizeLaws.{termSize-substitute}
 use Rattle.rules.proofs.ReadBackLaws.{readBack-translate, translate-readBack}
 use Rattle.rules.proofs.SoundTermLaws.{sound-translate}
-use Rattle.term.specs.Calls.{noSource, numerals, readBackCall, readBackRows, resultCall, resultRows, sourceBytes, sourceOf, substituteCall, substituteRows, substituted, substitutedBy, tooShort, translateCall, translateRows, translated}
-
--- ROW 10
-
-pub fits-out : (out answer : List ℕ) → length answer ≤ length out → tooShort out answer ≡ false
-unfolding tooShort
-fits-out out answer h = le-ltb (length out) (length answer) h
-
-pub short-out : (out answer : List ℕ) → length out < length answer → tooShort out answer ≡ true
-unfolding tooShort
-short-out out answer h = lt-ltb (length out) (length answer) h
-
-pub ten-iff : (out answer : List ℕ) → (tooShort out answer ≡ true) ↔ (length out < length answer)
-unfolding tooShort
-ten-iff out answer = ltb-iff (length out) (length answer)
+use Rattle.term.specs.Calls.{noSource, numerals, readBackCall, readBackRows, resultCall, resultRows, sourceBytes, sourceOf, substituteCall, substituteRows, substituted, substitutedBy, translateCall, translateRows, translated}
 
 -- NUMBERS AND REFUSALS
 

@@ -20,7 +20,7 @@ use Rattle.rules.specs.Sound.{SoundTerm}
 use Rattle.rules.specs.Substitution.{fromStore, substitute}
 use Rattle.rules.specs.Syntax.{Atom, Block, Term, num, tuple}
 use Rattle.rules.specs.Translation.{translate}
-use Rattle.record.proofs.AnswerLaws.{stored-accepted}
+use Rattle.record.proofs.AnswerLaws.{stored-accepted, ten-iff}
 use Rattle.record.proofs.HeaderLaws.{ok-limit}
 use Rattle.record.proofs.HoldingLaws.{padded-program, program-checked, program-size, term-is, term-size, tuple-finished}
 use Rattle.record.proofs.PaddedLaws.{length-padded}
@@ -34,7 +34,7 @@ use Rattle.rules.proofs.ReplacedLaws.{replaced-references}
 use Rattle.rules.proofs.SubstitutionLaws.{values-num}
 use Rattle.term.specs.CallMeaning.{CallsMean, GivesBack}
 use Rattle.term.specs.Calls.{Substituted, noSource, numerals, readBackCall, resultCall, resultRows, sourceOf, substituteCall, translateCall}
-use Rattle.term.proofs.CallLaws.{readBack-fits, readBack-long, readBack-roomy, reads-back, reads-none, result-first, result-number, source-is, substitute-gives, ten-iff, translate-fits, translate-holds, translate-length, translate-long, translate-writes}
+use Rattle.term.proofs.CallLaws.{readBack-fits, readBack-long, readBack-roomy, reads-back, reads-none, result-first, result-number, source-is, substitute-gives, translate-fits, translate-holds, translate-length, translate-long, translate-writes}
 
 -- READ BACK, of a term in a buffer
 

@@ -5,7 +5,7 @@ use mathlib.Core.Logic.{_↔_, _⊎_}
 use mathlib.Core.Bool.{true}
 use mathlib.Core.List.{List, map}
 use lib.ListN.{length, take}
-use Rattle.record.specs.Answers.{Wrote, checkProgram, padded}
+use Rattle.record.specs.Answers.{Wrote, checkProgram, padded, tooShort}
 use Rattle.record.specs.declared.Header.{Header}
 use Rattle.record.specs.Header.{encodeProgram, encodeTerm}
 use Rattle.record.specs.Holding.{IsProgram, ProgramIn, TermIn}
@@ -14,7 +14,7 @@ use Rattle.rules.specs.Replaced.{references, replaced}
 use Rattle.rules.specs.Substitution.{fromStore, substitute}
 use Rattle.rules.specs.Syntax.{Atom, Block, Term, num, tuple}
 use Rattle.rules.specs.Translation.{translate}
-use Rattle.term.specs.Calls.{noSource, readBackCall, resultCall, substituteCall, tooShort, translateCall}
+use Rattle.term.specs.Calls.{noSource, readBackCall, resultCall, substituteCall, translateCall}
 
 -- What read-back answers and leaves where it gives the program P (01 "Translation and read-back"): P's record with zeros behind
 -- it, which the checker accepts.

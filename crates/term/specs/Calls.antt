@@ -3,9 +3,8 @@ use Prim.Native.Nat.{suc, zero, ℕ}
 use mathlib.Core.Bool.{Bool, _||_}
 use mathlib.Core.List.{List, [], map, _∷_}
 use mathlib.Core.Option.{Option}
-use lib.Dec.{ltb}
 use lib.ListN.{length}
-use Rattle.record.specs.Answers.{Stored, Wrote, padded, storedBy, wroteBy}
+use Rattle.record.specs.Answers.{Stored, Wrote, padded, storedBy, tooShort, wroteBy}
 use Rattle.record.specs.Header.{encodeProgram, encodeTerm}
 use Rattle.record.specs.Rows.{Row, badBuffer, badStore, firstRow, headerOf, isNone, kOf, openTerm, orElse, programOf, programRows, row, termRows, theTermOf, tooLong, unfinished}
 use Rattle.rules.specs.ReadBack.{readBack}
@@ -16,10 +15,6 @@ use Rattle.rules.specs.Syntax.{Block, Term, empty, letAll, letOne, rec, tuple}
 use Rattle.rules.specs.Translation.{translate}
 
 -- TRANSLATE: rows 1 to 5 and 10. Row 1 looks at both buffers.
-
--- Row 10: the answer is longer than the output buffer.
-unfoldable pub tooShort : List ℕ → List ℕ → Bool
-tooShort out answer = ltb (length out) (length answer)
 
 -- The record that answers.
 abbrev pub translated : List ℕ → ℕ → List ℕ

@@ -16,14 +16,14 @@ pub struct Written {
     pub used: u32,
 }
 
-fn refused(number: u32) -> Written
+pub fn refused(number: u32) -> Written
     ensures { λ r. ⌜ r ≡ refusedWith number ⌝ }
 {
     Written { number, used: 0 }
 }
 
 // A used length fits a u32, for no buffer is longer than 16,384 bytes.
-fn wrote(used: usize) -> Written
+pub fn wrote(used: usize) -> Written
     requires { ⌜ used ≤ 16384 ⌝ }
     ensures { λ r. ⌜ r ≡ wroteBytes used ⌝ }
 {

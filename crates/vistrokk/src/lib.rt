@@ -3,6 +3,8 @@
 ghost use mathlib.Core.Path.{_≡_};
 ghost use Rattle.record.specs.Answers.{checkProgram, checkTerm};
 ghost use Rattle.checker.specs.Answer.{asChecked};
+ghost use Rattle.counter.specs.Represents as counter;
+ghost use Rattle.counting.specs.CountingCall.{expandCall, runCounting};
 ghost use Rattle.run.specs.Represents.{inNumbers};
 ghost use Rattle.stepper.specs.RunStepper.{runStepper};
 ghost use Rattle.reducer.specs.Represents as reducer;
@@ -85,4 +87,30 @@ pub extern "C" fn vistrokk_run_reducer(
     ensures { λ r. ⌜ (r ≡ reducer.inNumbers ((runReducer (now (buf .entry)) used budget) .answer) ((runReducer (now (buf .entry)) used budget) .replaced)) × (now (buf .exit) ≡ (runReducer (now (buf .entry)) used budget) .buf) ⌝ }
 {
     reducer::answer::in_numbers(reducer::run_reducer(buf, used, budget))
+}
+
+#[no_mangle]
+pub extern "C" fn vistrokk_run_counting(
+    program: &[u8],
+    used: usize,
+    state: &mut [u32; 189],
+    store: &mut [u32],
+    budget: u32,
+) -> counter::answer::CountedNumbers
+    ensures { λ r. ⌜ (r ≡ counter.inNumbers ((runCounting (now (program .entry)) used (now (state .entry)) (now (store .entry)) budget) .answer)) × (now (state .exit) ≡ (runCounting (now (program .entry)) used (now (state .entry)) (now (store .entry)) budget) .words) × (now (store .exit) ≡ (runCounting (now (program .entry)) used (now (state .entry)) (now (store .entry)) budget) .store) ⌝ }
+{
+    counter::answer::in_numbers(counter::run_counting(program, used, state, store, budget))
+}
+
+#[no_mangle]
+pub extern "C" fn vistrokk_expand(
+    program: &[u8],
+    used: usize,
+    state: &[u32; 189],
+    store: &[u32],
+    out: &mut [u8],
+) -> term::Written
+    ensures { λ r. ⌜ asWrote r (now (out .exit)) ≡ expandCall (now (program .entry)) used (now (state .entry)) (now (store .entry)) (now (out .entry)) ⌝ }
+{
+    counter::expand::expand(program, used, state, store, out)
 }

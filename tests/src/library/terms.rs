@@ -4,7 +4,7 @@ use super::{start, start_mut};
 use crate::calls;
 
 #[repr(C)]
-struct Written {
+pub(super) struct Written {
     number: u32,
     used: u32,
 }

@@ -72,7 +72,7 @@ impl Machine for Config {
 }
 
 /// Variables count from 1, a Rust slice from 0.
-fn place(variable: Variable) -> usize {
+pub fn place(variable: Variable) -> usize {
     variable as usize - 1
 }
 
@@ -131,7 +131,7 @@ fn assign(variable: Variable, expr: &Expr, store: &[Value]) -> Answer<Step> {
     }
 }
 
-fn bound_value(bound: &Bound, store: &[Value]) -> Value {
+pub fn bound_value(bound: &Bound, store: &[Value]) -> Value {
     match *bound {
         Bound::Literal(value) => value,
         Bound::Variable(variable) => store[place(variable)],

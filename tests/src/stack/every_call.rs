@@ -1,4 +1,4 @@
-//! The nine calls, as the stack is measured of them.
+//! The eleven calls, as the stack is measured of them.
 
 use super::Call;
 
@@ -8,6 +8,7 @@ pub fn every_call() -> Vec<Call> {
     calls.extend(terms::calls());
     calls.extend(weigh::calls());
     calls.extend(stepper::calls());
+    calls.extend(counting::calls());
     calls.extend(reducer::calls());
     calls
 }
@@ -106,6 +107,49 @@ mod stepper {
             library: |s| library::run_stepper(&mut s.buffer, s.used, &mut s.store, BUDGET).number,
             other: |s| calls::run_stepper(&mut s.buffer, s.used, &mut s.store, BUDGET).number,
         }]
+    }
+}
+
+mod counting {
+    use super::Call;
+    use crate::calls::{self, Counted, Written};
+    use crate::extremes::counting_records;
+    use crate::library;
+    use crate::run::counting::words::Words;
+    use crate::stack::Slices;
+
+    const BUDGET: u32 = 10_000;
+
+    pub fn calls() -> [Call; 2] {
+        let run_counting = Call {
+            name: "run_counting",
+            limit: 2_048,
+            records: counting_records,
+            library: |s| run(s, library::run_counting),
+            other: |s| run(s, calls::run_counting),
+        };
+        let expand = Call {
+            name: "expand",
+            limit: 2_048,
+            records: counting_records,
+            library: |s| write_out(s, library::expand),
+            other: |s| write_out(s, calls::expand),
+        };
+        [run_counting, expand]
+    }
+
+    type Run = fn(&[u8], usize, &mut Words, &mut [u32], u32) -> Counted;
+    type Expand = fn(&[u8], usize, &Words, &[u32], &mut [u8]) -> Written;
+
+    /// From the fullest state, and then from the start.
+    fn run(s: &mut Slices, call: Run) -> u32 {
+        call(&s.buffer, s.used, &mut s.state, &mut s.store, BUDGET);
+        s.state.fill(0);
+        call(&s.buffer, s.used, &mut s.state, &mut s.store, BUDGET).number
+    }
+
+    fn write_out(s: &mut Slices, call: Expand) -> u32 {
+        call(&s.buffer, s.used, &s.state, &s.store, &mut s.out).number
     }
 }
 

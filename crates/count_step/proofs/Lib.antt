@@ -1,0 +1,13 @@
+pub mod ReadLaws
+pub mod InnerLaws
+pub mod WordsLaws
+pub mod AroundLaws
+pub mod WayLaws
+pub mod ShutLaws
+pub mod EndLaws
+pub mod CodeLaws
+pub mod StandingLaws
+pub mod ShapeLaws
+pub mod LookLaws
+pub mod FlatLaws
+pub mod WholeLaws

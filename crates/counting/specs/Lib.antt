@@ -1,0 +1,16 @@
+pub mod Counting
+pub mod CountStep
+pub mod Size
+pub mod Place
+pub mod StateOf
+pub mod Depth
+pub mod Entries
+pub mod Held
+pub mod ReadState
+pub mod StateWords
+pub mod SmallState
+pub mod Frames
+pub mod Fault
+pub mod CountingCall
+pub mod CountingRan
+pub mod CountingMeaning

@@ -1,0 +1,5 @@
+pub mod Entry
+pub mod Pieces
+pub mod Walk
+pub mod Sizing
+pub mod Writing

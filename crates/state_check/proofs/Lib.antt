@@ -1,0 +1,4 @@
+pub mod ClassLaws
+pub mod PlaceLaws
+pub mod EntryLaws
+pub mod WalkLaws
