@@ -101,7 +101,8 @@ static uint32_t word(const uint8_t *at)
     return at[0] | (uint32_t) at[1] << 8 | (uint32_t) at[2] << 16 | (uint32_t) at[3] << 24;
 }
 
-/* ADD, and a store whose first value comes from the scales: 130 kg are 10 over 6 · 20, so 7 by the nearest 20. */
+/* ADD, and a store whose first value comes from the scales: 130 kg are 10 over 6 · 20, so 7 by the nearest 20. Weighing leaves in
+ * variable 2 whether tare is larger, here 0; ADD adds variable 2 to variable 1, so 3 is written over it. */
 static uint32_t weighed(void)
 {
     uint32_t number;

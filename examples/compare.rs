@@ -229,7 +229,8 @@ fn accepted(call: &'static str, number: u32) -> Result<(), Refused> {
 }
 
 /// ADD, and a store whose first value comes from the scales: 130 kg are 10 over 6 · 20, so 7 by the
-/// nearest 20.
+/// nearest 20. Weighing leaves in variable 2 whether tare is larger, here 0; ADD adds variable 2 to
+/// variable 1, so 3 is written over it.
 fn weighed() -> Result<Load, Refused> {
     let mut store = vec![0; 4];
     accepted("the load", weigh(ROUND_NEAREST, 1_500, 1_370, &mut store))?;

@@ -79,9 +79,10 @@ enum vistrokk_rule {
     VISTROKK_ROUND_NEAREST = 2 /* to the nearest 20 kg; 10 kg over goes up */
 };
 
-/* A start store from gross and tare in kilograms: variable 1 gets (gross - tare) / 20, 0 if tare is the larger, rounded by the
- * rule; every other variable 0. Any gross and tare will do: nothing wraps. Answers VISTROKK_ACCEPTED, or VISTROKK_BAD_STORE or
- * VISTROKK_BAD_RULE with the store as it was. Writes the store alone. */
+/* A start store from gross and tare in kilograms. Variable 1 gets their difference, whichever is larger, divided by 20 and rounded
+ * by the rule; variable 2 gets 1 when tare is larger (the load left heavier than it came) and otherwise 0; every other variable
+ * 0. A store of one value takes only the first. Any gross and tare will do: nothing wraps. Answers VISTROKK_ACCEPTED, or
+ * VISTROKK_BAD_STORE or VISTROKK_BAD_RULE with the store as it was. Writes the store alone. */
 uint32_t vistrokk_weigh(uint32_t rule, uint32_t gross, uint32_t tare, uint32_t *store, size_t store_len);
 
 /* The outcomes of a run, read from the state that is left, first match. Over: the next step would give 4,294,967,296. No room:

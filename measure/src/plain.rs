@@ -226,9 +226,9 @@ fn agree_on_term(Lending { buffer, used }: &Lending, values: &[u32], budget: u32
     let number = store::result(buffer, *used, &mut shown);
     assert_eq!(number, calls::result(buffer, *used, &mut other_shown));
     assert_eq!(shown, other_shown);
-    for rule in 0..4 {
-        let number = store::weigh(rule, budget, 20, &mut shown);
-        assert_eq!(number, calls::weigh(rule, budget, 20, &mut other_shown));
+    for (rule, gross, tare) in (0..4).flat_map(|rule| [(rule, budget, 20), (rule, 20, budget)]) {
+        let number = store::weigh(rule, gross, tare, &mut shown);
+        assert_eq!(number, calls::weigh(rule, gross, tare, &mut other_shown));
         assert_eq!(shown, other_shown);
     }
     let (mut buf, mut other_buf) = (buffer.clone(), buffer.clone());

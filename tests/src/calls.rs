@@ -326,17 +326,21 @@ fn numerals(buf: &[u8], used: usize, places: usize) -> Result<Vec<u32>, Refusal>
 
 // Rows 6, 11.
 
-/// Variable 1 gets the net load in units of 20 kg, rounded by the rule, and every other variable 0
-/// (01, "Result and weighing"; 02, C-11).
+/// Variable 1 gets the difference, whichever is larger, in units of 20 kg, rounded by the rule;
+/// variable 2 gets 1 when tare is larger and otherwise 0, unless the store has one value alone; every
+/// other variable 0 (01, "Result and weighing"; 02, C-11 and C-15).
 pub fn weigh(rule: u32, gross: u32, tare: u32, store: &mut [u32]) -> u32 {
     if !(1..=16).contains(&store.len()) {
         return Refusal::BadStore.number();
     }
-    let Some(count) = rounded(rule, gross.saturating_sub(tare)) else {
+    let Some(count) = rounded(rule, gross.abs_diff(tare)) else {
         return Refusal::BadRule.number();
     };
     store.fill(0);
     store[0] = count;
+    if store.len() > 1 {
+        store[1] = u32::from(tare > gross);
+    }
     0
 }
 

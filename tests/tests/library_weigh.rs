@@ -1,6 +1,8 @@
 //! The library's weighing against the other program's. Every call goes through `both`, which
 //! compares; `runs.rs` states values of 01 and 02.
 
+use std::cmp::Ordering;
+
 use other::both::{run_reducer, run_stepper, substitute, translate, weigh};
 use other::check::Refusal;
 use other::codec::Record;
@@ -41,21 +43,31 @@ const WEIGHTS: [u32; 25] = [
     u32::MAX,
 ];
 
-/// What a weighing was answered: accepted by rule 1 with a count of 0, with another, the same by
-/// rule 2, refused for the store, for the rule.
-fn kind(rule: u32, number: u32, store: &[u32]) -> usize {
+/// What a weighing was answered: accepted by rule 1 of a gross that is larger, with a count of 0 and
+/// with another, of equal weights, of a tare that is larger, again with both; the same by rule 2;
+/// refused for the store, for the rule.
+fn kind(rule: u32, gross: u32, tare: u32, number: u32, store: &[u32]) -> usize {
     match number {
-        0 => 2 * (rule as usize - 1) + usize::from(store[0] > 0),
-        _ if number == Refusal::BadStore.number() => 4,
-        _ => 5,
+        0 => {
+            let counts = usize::from(store[0] > 0);
+            let which = match gross.cmp(&tare) {
+                Ordering::Greater => counts,
+                Ordering::Equal => 2,
+                Ordering::Less => 3 + counts,
+            };
+            5 * (rule as usize - 1) + which
+        }
+        _ if number == Refusal::BadStore.number() => 10,
+        _ => 11,
     }
 }
 
 /// Each pair of them by each rule, in stores of every length to beyond 16: 625 pairs, 16 lengths
-/// that are taken and 25 that are not. Of the pairs 325 have a tare that is no less than gross.
+/// that are taken and 25 that are not. Of the pairs 25 are equal and 300 have a larger gross; of these
+/// 73 are less than 20 apart, 34 less than 10. The other 300 are the same, exchanged.
 #[test]
 fn every_pair_of_weights_in_every_store() {
-    let seen = Counts::<6>::default();
+    let seen = Counts::<12>::default();
     for (rule, gross) in RULES.iter().flat_map(|rule| WEIGHTS.map(|w| (*rule, w))) {
         for (tare, len) in WEIGHTS
             .iter()
@@ -63,18 +75,21 @@ fn every_pair_of_weights_in_every_store() {
         {
             let mut store: Vec<u32> = (1..=len).collect();
             let number = weigh(rule, gross, tare, &mut store);
-            seen.one(kind(rule, number, &store));
+            seen.one(kind(rule, gross, tare, number, &store));
         }
     }
-    let (zero, more) = (325 * 16, 200 * 16);
-    seen.assert_at_least([zero, more, zero, more, 625 * 25 * 5, 625 * 16 * 3]);
+    let pairs = [73, 227, 25, 73, 227, 34, 266, 25, 34, 266, 0, 0];
+    let mut least = pairs.map(|count| 16 * count);
+    [least[10], least[11]] = [625 * 25 * 5, 625 * 16 * 3];
+    seen.assert_at_least(least);
 }
 
-/// A weight: any, a small one, or a few kilograms from the other.
+/// A weight: any, a small one, the other, or a few kilograms from it.
 fn weight(random: &mut Random, other: u32) -> u32 {
-    match random.below(3) {
+    match random.below(4) {
         0 => random.word(),
         1 => random.below(200) as u32,
+        2 => other,
         _ => other.wrapping_add(random.below(80) as u32).wrapping_sub(40),
     }
 }
@@ -90,40 +105,47 @@ fn rule(random: &mut Random) -> u32 {
 
 #[test]
 fn generated_weights() {
-    let seen = Counts::<6>::default();
+    let seen = Counts::<12>::default();
     cases(100_000, |random| {
         let gross = random.word() >> random.below(32);
         let tare = weight(random, gross);
         let rule = rule(random);
         let mut store: Vec<u32> = (0..random.below(20)).map(|_| random.word()).collect();
         let number = weigh(rule, gross, tare, &mut store);
-        seen.one(kind(rule, number, &store));
+        seen.one(kind(rule, gross, tare, number, &store));
         if number == 0 {
-            // 02, C-11: the count times 20 is less than 20 kg from the net load.
-            let net = u64::from(gross.saturating_sub(tare));
-            assert!((20 * u64::from(store[0])).abs_diff(net) < 20);
+            // 02, C-11, of C-15's net load: the count times 20 is less than 20 kg from it.
+            let signed = i64::from(gross) - i64::from(tare);
+            assert!((20 * i64::from(store[0]) - signed.abs()).abs() < 20);
+            // 02, C-15: variable 2, where there is one; and 0 in every other.
+            let mut others = store.iter().skip(1);
+            let larger = if signed < 0 { 1 } else { 0 };
+            assert!(others.next().is_none_or(|value| *value == larger));
+            assert!(others.all(|value| *value == 0));
         }
     });
-    seen.assert_at_least([5_000; 6]);
+    seen.assert_at_least([500; 12]);
 }
 
-/// 02, C-11: the engines take the store either gives, where it has k values.
+/// 02, C-11: the engines take the store either gives, where it has k values; also that of a load whose
+/// tare is larger (02, C-15).
 #[test]
 fn the_engines_take_a_weighed_store() {
-    let seen = Counts::<3>::default();
+    let seen = Counts::<5>::default();
     cases(2_000, |random| {
         let program = program(random, 300);
         let record = program.encode();
         let mut store = vec![random.word(); program.k as usize];
         let rule = 1 + random.below(2) as u32;
         let gross = random.word() >> random.below(32);
-        assert_eq!(weigh(rule, gross, weight(random, gross), &mut store), 0);
-        seen.one(rule as usize - 1);
+        let tare = weight(random, gross);
+        assert_eq!(weigh(rule, gross, tare, &mut store), 0);
+        seen.one(2 * (rule as usize - 1) + usize::from(tare > gross));
 
         let mut term = vec![0; 16_384];
         let written = translate(&record, record.len(), &mut term);
         if written.number == 0 {
-            seen.one(2);
+            seen.one(4);
             let written = substitute(&mut term, written.used as usize, &store);
             assert_eq!(written.number, 0);
             let ran = run_reducer(&mut term, written.used as usize, 50);
@@ -135,5 +157,5 @@ fn the_engines_take_a_weighed_store() {
             0
         );
     });
-    seen.assert_at_least([500, 500, 1_500]);
+    seen.assert_at_least([300, 300, 300, 300, 1_500]);
 }

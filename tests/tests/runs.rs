@@ -329,65 +329,93 @@ fn result_and_its_rows() {
     }
 }
 
-/// What an accepted weighing leaves in stores of 1, 2 and 16 values: the count in variable 1, 0 in
-/// every other.
-fn weighs(rule: u32, gross: u32, tare: u32, count: u32) {
-    for len in [1, 2, 16] {
+/// What an accepted weighing leaves in stores of 1, 2, 3 and 16 values: the count in variable 1, 1 or
+/// 0 in variable 2, where there is one, and 0 in every other.
+fn weighs(rule: u32, gross: u32, tare: u32, count: u32, larger: u32) {
+    for len in [1, 2, 3, 16] {
+        let mut wanted = vec![count, larger];
+        wanted.resize(len, 0);
         let mut store = vec![77; len];
-        let mut wanted = vec![0; len];
-        wanted[0] = count;
         assert_eq!(weigh(rule, gross, tare, &mut store), 0);
-        assert_eq!(store, wanted, "{gross} less {tare} by rule {rule}");
+        assert_eq!(store, wanted, "{gross} and {tare} by rule {rule}");
     }
 }
 
-/// Rule 1: (gross − tare) / 20 rounded down, 0 if tare is the larger (01, "Result and weighing").
+/// Rule 1: the difference / 20 rounded down (01, "Result and weighing"); whichever is larger, and 1 in
+/// variable 2 when tare is (02, C-15).
 #[test]
 fn weighing_rounded_down() {
     let weights = [
-        (19, 0, 0),
-        (20, 0, 1),
-        (39, 0, 1),
-        (40, 0, 2),
-        (1_519, 1_500, 0),
-        (1_520, 1_500, 1),
-        (1_500, 1_500, 0),
-        (1_500, 1_501, 0),
-        (0, u32::MAX, 0),
-        (u32::MAX, 0, 214_748_364),
-        (u32::MAX, u32::MAX, 0),
-        (u32::MAX, u32::MAX - 20, 1),
+        (0, 0, 0, 0),
+        (19, 0, 0, 0),
+        (20, 0, 1, 0),
+        (39, 0, 1, 0),
+        (40, 0, 2, 0),
+        (0, 1, 0, 1),
+        (0, 19, 0, 1),
+        (0, 20, 1, 1),
+        (0, 39, 1, 1),
+        (0, 40, 2, 1),
+        (1_519, 1_500, 0, 0),
+        (1_520, 1_500, 1, 0),
+        (1_530, 1_500, 1, 0),
+        (1_501, 1_500, 0, 0),
+        (1_500, 1_500, 0, 0),
+        (1_500, 1_501, 0, 1),
+        (1_500, 1_519, 0, 1),
+        (1_500, 1_520, 1, 1),
+        (1_500, 1_530, 1, 1),
+        (0, u32::MAX, 214_748_364, 1),
+        (u32::MAX, 0, 214_748_364, 0),
+        (u32::MAX, u32::MAX, 0, 0),
+        (u32::MAX, u32::MAX - 20, 1, 0),
+        (u32::MAX - 19, u32::MAX, 0, 1),
+        (u32::MAX - 20, u32::MAX, 1, 1),
     ];
-    for (gross, tare, count) in weights {
-        weighs(1, gross, tare, count);
+    for (gross, tare, count, larger) in weights {
+        weighs(1, gross, tare, count, larger);
     }
 }
 
-/// Rule 2 (02, C-11): to the nearest 20 kg, and 10 kg over goes up; 0 if tare is the larger.
+/// Rule 2 (02, C-11): to the nearest 20 kg, and 10 kg over goes up; of the same difference (02, C-15).
 /// 4,294,967,295 is 214,748,364 · 20 + 15; less 5 it is 10 over and less 6 it is 9 over.
 #[test]
 fn weighing_to_the_nearest() {
     let weights = [
-        (9, 0, 0),
-        (10, 0, 1),
-        (20, 0, 1),
-        (29, 0, 1),
-        (30, 0, 2),
-        (1_509, 1_500, 0),
-        (1_510, 1_500, 1),
-        (1_500, 1_500, 0),
-        (1_500, 1_501, 0),
-        (1_500, 1_510, 0),
-        (0, u32::MAX, 0),
-        (u32::MAX, 0, 214_748_365),
-        (u32::MAX - 5, 0, 214_748_365),
-        (u32::MAX - 6, 0, 214_748_364),
-        (u32::MAX, 6, 214_748_364),
-        (u32::MAX, u32::MAX - 10, 1),
-        (u32::MAX, u32::MAX - 9, 0),
+        (0, 0, 0, 0),
+        (9, 0, 0, 0),
+        (10, 0, 1, 0),
+        (20, 0, 1, 0),
+        (29, 0, 1, 0),
+        (30, 0, 2, 0),
+        (0, 9, 0, 1),
+        (0, 10, 1, 1),
+        (0, 20, 1, 1),
+        (0, 29, 1, 1),
+        (0, 30, 2, 1),
+        (1_509, 1_500, 0, 0),
+        (1_510, 1_500, 1, 0),
+        (1_530, 1_500, 2, 0),
+        (1_501, 1_500, 0, 0),
+        (1_500, 1_500, 0, 0),
+        (1_500, 1_501, 0, 1),
+        (1_500, 1_509, 0, 1),
+        (1_500, 1_510, 1, 1),
+        (1_500, 1_530, 2, 1),
+        (0, u32::MAX, 214_748_365, 1),
+        (0, u32::MAX - 6, 214_748_364, 1),
+        (u32::MAX, 0, 214_748_365, 0),
+        (u32::MAX - 5, 0, 214_748_365, 0),
+        (u32::MAX - 6, 0, 214_748_364, 0),
+        (u32::MAX, 6, 214_748_364, 0),
+        (u32::MAX, u32::MAX - 10, 1, 0),
+        (u32::MAX, u32::MAX - 9, 0, 0),
+        (u32::MAX, u32::MAX, 0, 0),
+        (u32::MAX - 9, u32::MAX, 0, 1),
+        (u32::MAX - 10, u32::MAX, 1, 1),
     ];
-    for (gross, tare, count) in weights {
-        weighs(2, gross, tare, count);
+    for (gross, tare, count, larger) in weights {
+        weighs(2, gross, tare, count, larger);
     }
 }
 
@@ -402,10 +430,12 @@ fn weighing_and_its_rows() {
                 (1..=16, _) => 11,
                 _ => 6,
             };
-            let mut store = vec![77; len];
-            assert_eq!(weigh(rule, 1_540, 1_500, &mut store), wanted);
-            if wanted != 0 {
-                assert_eq!(store, vec![77; len], "rule {rule}");
+            for (gross, tare) in [(1_540, 1_500), (1_500, 1_500), (1_500, 1_540)] {
+                let mut store = vec![77; len];
+                assert_eq!(weigh(rule, gross, tare, &mut store), wanted);
+                if wanted != 0 {
+                    assert_eq!(store, vec![77; len], "rule {rule}");
+                }
             }
         }
     }

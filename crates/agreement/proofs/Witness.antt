@@ -44,7 +44,7 @@ use Rattle.agreement.specs.GoingBack.{GoingBack, wentBack, writtenOut}
 use Rattle.agreement.specs.Orders.{AllAllowed, Order, Stepper, World, advanced, afterCounted, afterRecorded, afterReducer, change, counted, order, other, own, ownAfter, play, played, playedCounted, playedRecorded, playedReducer, recorded, reduces, steps, toCounting, toReducer, toStepper, usedAfter, valuesLent}
 use Rattle.agreement.specs.RoomsDiffer.{RoomsDiffer}
 use Rattle.agreement.specs.WeighedStore.{EnginesTake, WeighedStore}
-use Rattle.weighing.specs.Weigh.{badRule, badSize, countOf, netLoad, weighCall, weighed}
+use Rattle.weighing.specs.Weigh.{badRule, badSize, countOf, netLoad, tareLarger, weighCall, weighed}
 use Rattle.agreement.proofs.Demand3Laws.{demand3-either}
 use Rattle.agreement.proofs.GoingBackLaws.{going-back}
 use Rattle.agreement.proofs.WeighedStoreLaws.{weighed-store}
@@ -166,12 +166,13 @@ pub counts : Counts
 unfolding witness adding closedAtom closedAtoms closedSimple closedIn closed plays sameAtom sameAtoms exprOf boundOf sourceLetOne sourceLetAll sourceRec source blockOfSource readBack valueOf unrollRec reduceInside reduceLetOne reduce onNext orStop iterate outcomeOf stop oneMore goOn runOn run inRange exprInRange boundInRange blockInRange atomInRange atomsInRange simpleInRange termInRange boundValue unrollLoop stepInside stepAssign stepBlock step upTo minusOne lookup update fromStore only except orRef substituteAtom substituteSimple substitute stateOf refs simpleOf atomOf translate le val padded checkedBy checkProgram checkTerm wroteBy storedBy fuelled fixed lengthField kindField kField kindOf largestOf fieldsOf contentsAt contents headed blockBytes encodeTermRecord blockIn termIn encodeProgram encodeTerm exprKind exprNumber boundKind boundNumber exprFrom boundFrom encodeBlock blockSize commandKind decodeCommand decodeBlockPart decodeBlockStep decodeBlock then bind atEnd fromSome pick word ofKind subOf sub encodeLeaf leafOf leaf anyRecordOf anyRecord encodeRecord cut split pickRow firstRow isNone holds orElse tooLong badBuffer badHeader badK badBlock badTerm blockOutside termOutside badStore openTerm finishedTerm unfinished atomKind atomNumber atomFrom encodeAtoms decodeAtoms simpleKindIf encodeSimple simpleSize onlyAtom plainOf simpleBy simpleFrom readSimple kindOfTerm termContents termSize termKindIf termKind lastTerm decodeTermKind decodeTermStep measureTerm decodeTerm outcomeNumber roomFor tooShort translateCall noSource readBackCall substituteCall substitutedBy given replaced replacedAtom replacedAtoms replacedSimple replacedLetOne replacedLetAll replacedNext orZero replacedSum numerals resultCall steppedTo stepperBy runStepper reducedTo reducerBy runReducer shownBy budget stepperEnding reducerEnding configOf programBytesOf translatedOf substitutedOf endingOfStepper acceptedValues endingOfReducer shownFrom shown reducerExpected expected examples
 counts = record { substitution = refl; run = refl }
 
--- A WEIGHED STORE: 1,500 kg less 1,370 kg are 10 over six twenties, so 7 by rule 2; into four values, for ADD
+-- A WEIGHED STORE, of a load that leaves heavier: 1,370 kg and 1,500 kg are 130 apart, 10 over six twenties, so 7 by rule 2, and tare is
+-- larger; into four values, for ADD
 
-pub weighed-witness : EnginesTake (ofVariables 4) add (witness .checkBuf) 64 (7 ∷ 0 ∷ 0 ∷ 0 ∷ [])
-unfolding WeighedStore witness weighCall weighed countOf netLoad badSize badRule inRange storedBy firstRow pickRow
+pub weighed-witness : EnginesTake (ofVariables 4) add (witness .checkBuf) 64 (7 ∷ 1 ∷ 0 ∷ 0 ∷ [])
+unfolding WeighedStore witness weighCall weighed countOf netLoad tareLarger badSize badRule inRange storedBy firstRow pickRow
 weighed-witness =
-    weighed-store 2 1500 1370 (9 ∷ 9 ∷ 9 ∷ 9 ∷ []) (lit< tt) refl (ofVariables 4) add (witness .checkBuf) 64 (witness .checked) (witness .program) (witness .programWords) refl
+    weighed-store 2 1370 1500 (9 ∷ 9 ∷ 9 ∷ 9 ∷ []) (lit< tt) (lit< tt) refl (ofVariables 4) add (witness .checkBuf) 64 (witness .checked) (witness .program) (witness .programWords) refl
 
 -- ROOMS: ADD on 7, 4, 0, 0, both buffers of 172 bytes, as many as the term's record has
 

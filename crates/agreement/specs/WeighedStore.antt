@@ -1,5 +1,5 @@
--- "THE ENGINES TAKE THE STORE EITHER GIVES, where it has k values" (02 C-11; either: of the two rules). Over the calls, both rules at
--- once.
+-- "THE ENGINES TAKE THE STORE EITHER GIVES, where it has k values" (02 C-11, of the store that C-15 gives; either: of the two rules). Over
+-- the calls, both rules at once.
 use Prim.Native.Nat.{_<_, ℕ, _≤_}
 use mathlib.Core.Path.{_≡_}
 use mathlib.Core.List.{List}
@@ -44,9 +44,9 @@ pub record EnginesTake (h : Header) (P : Block) (cb : List ℕ) (cu : ℕ) (μ :
       → (s : Start h P μ) × (startWorld h P μ s
       ≡ begun (record { buf = stepperBuf; used = cu; store = μ }) (record { buf = reducerBuf; used = (substituteCall buf used μ) .used; replaced = 0 }))
 
--- Of every accepted weighing of a gross that is a value, by whichever rule, and every accepted program of as many variables as it
--- gives values. (That a program is accepted is said as at demand 3's start.)
+-- Of every accepted weighing of a gross and a tare that are values, by whichever rule, and every accepted program of as many variables
+-- as it gives values. (That a program is accepted is said as at demand 3's start.)
 unfoldable pub WeighedStore : Type 0
-WeighedStore = (rule gross tare : ℕ) (store : List ℕ) → gross < 4294967296 → (weighCall rule gross tare store) .number ≡ 0
+WeighedStore = (rule gross tare : ℕ) (store : List ℕ) → gross < 4294967296 → tare < 4294967296 → (weighCall rule gross tare store) .number ≡ 0
     → (h : Header) (P : Block) (cb : List ℕ) (cu : ℕ) → checkProgram cb cu ≡ record { number = 0; k = h .k } → take cu cb ≡ encodeProgram h P → BlockWords P
     → length store ≡ h .k → EnginesTake h P cb cu ((weighCall rule gross tare store) .store)

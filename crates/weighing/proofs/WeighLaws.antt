@@ -2,9 +2,10 @@
 use Prim.Native.Nat.{_*_, _+_, _-_, _/_, _<_, suc, zero, ℕ, _≤_}
 use mathlib.Core.Path.{ap, refl, subst, sym, _∙_, _≡_}
 use mathlib.Core.Logic.{inl, inr, _↔_}
-use mathlib.Core.Bool.{Bool, false, true}
+use mathlib.Core.Bool.{Bool, cond, false, true}
 use mathlib.Core.List.{List, [], _∷_}
-use borrow.Author.Tests.{not-false}
+use borrow.Author.Tests.{le-leb, leb-false, leb-true, lt-leb, not-false}
+use lib.Dec.{leb}
 use lib.ListN.{length, length-replicate, replicate}
 use native.Mathlib.Omega.{arith}
 use Rattle.record.specs.Answers.{Stored}
@@ -16,19 +17,41 @@ use Rattle.record.proofs.AnswerLaws.{stored-accepted, stored-number, stored-ref
 use Rattle.record.proofs.RowLaws.{first-applies, first-none, first-skips, none-first, not-intro}
 use Rattle.record.proofs.RowMeaningLaws.{not-iff}
 use Rattle.rules.proofs.ScopeLaws.{inRange-within, within-inRange}
-use Rattle.weighing.specs.Weigh.{badSize, badRule, countOf, netLoad, weighCall, weighRows, weighed}
-use Rattle.weighing.specs.WeighMeaning.{IsRule, WeighMeans, apart}
+use Rattle.weighing.specs.Weigh.{apart, badSize, badRule, countOf, netLoad, tareLarger, weighCall, weighRows, weighed}
+use Rattle.weighing.specs.WeighMeaning.{IsRule, WeighMeans}
+
+-- what an accepted weighing gives
+abbrev given : ℕ → ℕ → ℕ → List ℕ → List ℕ
+given rule gross tare store = weighed (length store) (countOf rule (netLoad gross tare)) (tareLarger gross tare)
 
 -- NUMBER AND REFUSAL
 
 pub weigh-number : (rule gross tare : ℕ) (store : List ℕ) → (weighCall rule gross tare store) .number ≡ firstRow (weighRows rule store)
 unfolding weighCall
-weigh-number rule gross tare store = stored-number (firstRow (weighRows rule store)) (weighed (length store) (countOf rule (netLoad gross tare))) store
+weigh-number rule gross tare store = stored-number (firstRow (weighRows rule store)) (given rule gross tare store) store
 
 pub weigh-refused : (rule gross tare : ℕ) (store : List ℕ) → (firstRow (weighRows rule store) ≡ 0 → ⊥)
     → weighCall rule gross tare store ≡ record { number = firstRow (weighRows rule store); store = store }
 unfolding weighCall
-weigh-refused rule gross tare store h = stored-refused (firstRow (weighRows rule store)) (weighed (length store) (countOf rule (netLoad gross tare))) store h
+weigh-refused rule gross tare store h = stored-refused (firstRow (weighRows rule store)) (given rule gross tare store) store h
+
+-- THE NET LOAD, AND WHETHER TARE IS LARGER
+
+pub net-load : (gross tare : ℕ) → tare ≤ gross → netLoad gross tare + tare ≡ gross
+unfolding netLoad
+net-load gross tare h = omega arith
+
+pub net-larger : (gross tare : ℕ) → gross ≤ tare → netLoad gross tare + gross ≡ tare
+unfolding netLoad
+net-larger gross tare h = omega arith
+
+pub tare-larger : (gross tare : ℕ) → gross < tare → tareLarger gross tare ≡ 1
+unfolding tareLarger
+tare-larger gross tare h = ap (λ (b : Bool). cond b 0 1) (lt-leb tare gross h)
+
+pub not-larger : (gross tare : ℕ) → tare ≤ gross → tareLarger gross tare ≡ 0
+unfolding tareLarger
+not-larger gross tare h = ap (λ (b : Bool). cond b 0 1) (le-leb tare gross h)
 
 -- THE RULES
 
@@ -126,10 +149,10 @@ weigh-passed rule store e =
     )
 
 weigh-gives : (rule gross tare : ℕ) (store : List ℕ) → firstRow (weighRows rule store) ≡ 0
-    → weighCall rule gross tare store ≡ record { number = 0; store = countOf rule (netLoad gross tare) ∷ replicate (length store - 1) 0 }
-unfolding weighCall weighed
+    → weighCall rule gross tare store ≡ record { number = 0; store = given rule gross tare store }
+unfolding weighCall
 weigh-gives rule gross tare store e =
-    stored-accepted (firstRow (weighRows rule store)) (countOf rule (netLoad gross tare) ∷ replicate (length store - 1) 0) store e
+    stored-accepted (firstRow (weighRows rule store)) (given rule gross tare store) store e
 
 -- ONE LAW FOR EACH WAY OUT of the call's code
 
@@ -148,32 +171,43 @@ pub weigh-eleven : (rule gross tare : ℕ) (store : List ℕ) → Within 16 (len
 weigh-eleven rule gross tare store w n =
     answers rule gross tare store (record { number = 11; store = store }) (weigh-no-rule rule gross tare store w (λ r. n (rule-within rule r)))
 
--- else the store filled with the count
-pub weigh-filled : (rule gross tare net count : ℕ) (store after : List ℕ) → Within 16 (length store) → Within 2 rule
-    → net ≡ netLoad gross tare → count ≡ countOf rule net → after ≡ weighed (length store) count
+-- else the store filled with the count and whether tare is larger
+pub weigh-filled : (rule gross tare net count larger : ℕ) (store after : List ℕ) → Within 16 (length store) → Within 2 rule
+    → net ≡ netLoad gross tare → count ≡ countOf rule net → larger ≡ tareLarger gross tare → after ≡ weighed (length store) count larger
     → (0 ≡ (weighCall rule gross tare store) .number) × (after ≡ (weighCall rule gross tare store) .store)
+weigh-filled rule gross tare net count larger store after w r n c t f =
+    let a = answers rule gross tare store (record { number = 0; store = given rule gross tare store }) (weigh-gives rule gross tare store (weigh-passes rule store w (rule-is rule r))) in (
+      a .0,
+      f ∙ ap (λ (m : ℕ). weighed (length store) m larger) (c ∙ ap (countOf rule) n)
+          ∙ ap (weighed (length store) (countOf rule (netLoad gross tare))) t ∙ a .1,
+    )
+
+-- A WEIGHED STORE
+
+pub weighed-more : (n count larger : ℕ) → 2 ≤ n → weighed n count larger ≡ count ∷ larger ∷ replicate (n - 2) 0
 unfolding weighed
-weigh-filled rule gross tare net count store after w r n c f =
-    let given : List ℕ = countOf rule (netLoad gross tare) ∷ replicate (length store - 1) 0 in
-    let a = answers rule gross tare store (record { number = 0; store = given }) (weigh-gives rule gross tare store (weigh-passes rule store w (rule-is rule r))) in
-    (a .0, f ∙ ap (λ (m : ℕ). m ∷ replicate (length store - 1) 0) (c ∙ ap (countOf rule) n) ∙ a .1)
+weighed-more zero count larger h = absurd (omega (arith, h))
+weighed-more (suc zero) count larger h = absurd (omega (arith, h))
+weighed-more (suc (suc n)) count larger h = ap (λ (m : ℕ). count ∷ larger ∷ replicate m 0) {x = n} {y = suc (suc n) - 2} (omega arith)
 
--- AN ACCEPTED WEIGHING; and the number of values of any
+weighed-length : (n count larger : ℕ) → length (weighed n count larger) ≡ n
+unfolding weighed
+weighed-length zero count larger = refl
+weighed-length (suc zero) count larger = refl
+weighed-length (suc (suc n)) count larger = ap (λ (m : ℕ). suc (suc m)) (length-replicate {A = ℕ} n 0)
 
-weigh-accepted : (P : Stored → Type 0) (rule gross tare : ℕ) (store : List ℕ) → (weighCall rule gross tare store) .number ≡ 0
-    → (IsRule rule → P (record { number = 0; store = countOf rule (netLoad gross tare) ∷ replicate (length store - 1) 0 })) → P (weighCall rule gross tare store)
-weigh-accepted P rule gross tare store z p =
-    let e : firstRow (weighRows rule store) ≡ 0 = sym (weigh-number rule gross tare store) ∙ z in
-    subst P (sym (weigh-gives rule gross tare store e)) (p (weigh-passed rule store e .1))
+weighed-first : (n count larger : ℕ) → 1 ≤ n → lookup (weighed n count larger) 1 ≡ count
+unfolding weighed lookup
+weighed-first zero count larger h = absurd (omega (arith, h))
+weighed-first (suc zero) count larger h = refl
+weighed-first (suc (suc n)) count larger h = refl
 
-weigh-length : (rule gross tare : ℕ) (store : List ℕ) → length ((weighCall rule gross tare store) .store) ≡ length store
-weigh-length rule gross tare store = go (firstRow (weighRows rule store)) refl
-  where
-    go : (n : ℕ) → firstRow (weighRows rule store) ≡ n → length ((weighCall rule gross tare store) .store) ≡ length store
-    go zero e =
-        ap (λ (s : Stored). length (s .store)) (weigh-gives rule gross tare store e)
-        ∙ ap suc (length-replicate {A = ℕ} (length store - 1) 0) ∙ omega (arith, weigh-passed rule store e .0 .0)
-    go (suc n) e = ap (λ (s : Stored). length (s .store)) (weigh-row n rule gross tare store e)
+-- where variable 2 gets 0 too, every variable but the first does
+weighed-plain : (n count : ℕ) → 1 ≤ n → weighed n count 0 ≡ count ∷ replicate (n - 1) 0
+unfolding weighed
+weighed-plain zero count h = absurd (omega (arith, h))
+weighed-plain (suc zero) count h = refl
+weighed-plain (suc (suc n)) count h = ap (λ (m : ℕ). count ∷ replicate m 0) {x = suc n} {y = suc (suc n) - 1} (omega arith)
 
 -- what is below a value that passes, and zeros
 module _ (ok : ℕ → Bool) (l : Limit ok) where
@@ -185,27 +219,114 @@ module _ (ok : ℕ → Bool) (l : Limit ok) where
   zeros-small zero = tt
   zeros-small (suc n) = (l .zeroPasses, zeros-small n)
 
-net-low : (gross tare : ℕ) → netLoad gross tare ≤ gross
-unfolding netLoad
-net-low gross tare = omega arith
+  weighed-small : (n count larger : ℕ) → ok count ≡ true → ok larger ≡ true → SmallValues ok (weighed n count larger)
+  unfolding weighed
+  weighed-small zero count larger c t = tt
+  weighed-small (suc zero) count larger c t = (c, tt)
+  weighed-small (suc (suc n)) count larger c t = (c, (t, zeros-small n))
+
+  -- the count is no more than the larger of gross and tare, and where tare is larger it is 1 at least
+  module _ (rule gross tare : ℕ) (r : IsRule rule) (g : ok gross ≡ true) (t : ok tare ≡ true) where
+    weights-pass : (ok (countOf rule (netLoad gross tare)) ≡ true) × (ok (tareLarger gross tare) ≡ true)
+    weights-pass = by-test (leb tare gross) refl
+      where
+        count : ℕ
+        count = countOf rule (netLoad gross tare)
+
+        low : countOf rule (netLoad gross tare) ≤ netLoad gross tare
+        low = count-low rule (netLoad gross tare) r
+
+        by-test : (b : Bool) → leb tare gross ≡ b → (ok (countOf rule (netLoad gross tare)) ≡ true) × (ok (tareLarger gross tare) ≡ true)
+        by-test true e =
+            let h = leb-true tare gross e in
+            (below-passes (gross - count) count gross (omega (arith, low, net-load gross tare h)) g, ap ok (not-larger gross tare h) ∙ l .zeroPasses)
+        by-test false e =
+            let h = leb-false tare gross e in (
+              below-passes (tare - count) count tare (omega (arith, low, net-larger gross tare (omega arith))) t,
+              ap ok (tare-larger gross tare h) ∙ below-passes (tare - 1) 1 tare (omega arith) t,
+            )
+
+-- AN ACCEPTED WEIGHING: what it asks, all that is said of what it gives, and its variable 1; and the number of values of any
+
+weigh-taken : (rule gross tare : ℕ) (store : List ℕ) → (weighCall rule gross tare store) .number ≡ 0 → Within 16 (length store) × IsRule rule
+weigh-taken rule gross tare store z = weigh-passed rule store (sym (weigh-number rule gross tare store) ∙ z)
+
+weigh-accepted : (P : Stored → Type 0) (rule gross tare : ℕ) (store : List ℕ) → (weighCall rule gross tare store) .number ≡ 0
+    → P (record { number = 0; store = given rule gross tare store }) → P (weighCall rule gross tare store)
+weigh-accepted P rule gross tare store z p = subst P (sym (weigh-gives rule gross tare store (sym (weigh-number rule gross tare store) ∙ z))) p
+
+weigh-first : (rule gross tare : ℕ) (store : List ℕ) → (weighCall rule gross tare store) .number ≡ 0
+    → lookup ((weighCall rule gross tare store) .store) 1 ≡ countOf rule (netLoad gross tare)
+weigh-first rule gross tare store z =
+    weigh-accepted (λ s. lookup (s .store) 1 ≡ countOf rule (netLoad gross tare)) rule gross tare store z
+    (weighed-first (length store) (countOf rule (netLoad gross tare)) (tareLarger gross tare) (weigh-taken rule gross tare store z .0 .0))
+
+weigh-length : (rule gross tare : ℕ) (store : List ℕ) → length ((weighCall rule gross tare store) .store) ≡ length store
+weigh-length rule gross tare store = go (firstRow (weighRows rule store)) refl
+  where
+    go : (n : ℕ) → firstRow (weighRows rule store) ≡ n → length ((weighCall rule gross tare store) .store) ≡ length store
+    go zero e =
+        ap (λ (s : Stored). length (s .store)) (weigh-gives rule gross tare store e)
+        ∙ weighed-length (length store) (countOf rule (netLoad gross tare)) (tareLarger gross tare)
+    go (suc n) e = ap (λ (s : Stored). length (s .store)) (weigh-row n rule gross tare store e)
+
+-- one value: the count alone
+weigh-one : (rule gross tare : ℕ) (store : List ℕ) → length store ≡ 1 → IsRule rule
+    → weighCall rule gross tare store ≡ record { number = 0; store = countOf rule (netLoad gross tare) ∷ [] }
+unfolding weighed
+weigh-one rule gross tare store one r =
+    weigh-gives rule gross tare store (weigh-passes rule store (omega arith, omega arith) r)
+    ∙ ap (λ (n : ℕ). record { number = 0; store = weighed n (countOf rule (netLoad gross tare)) (tareLarger gross tare) }) one
+
+-- more: variable 2 too
+weigh-more : (rule gross tare : ℕ) (store : List ℕ) → 2 ≤ length store → length store ≤ 16 → IsRule rule
+    → weighCall rule gross tare store
+    ≡ record { number = 0; store = countOf rule (netLoad gross tare) ∷ tareLarger gross tare ∷ replicate (length store - 2) 0 }
+weigh-more rule gross tare store more low r =
+    weigh-gives rule gross tare store (weigh-passes rule store (omega arith, low) r)
+    ∙ ap (λ (l : List ℕ). record { number = 0; store = l }) (weighed-more (length store) (countOf rule (netLoad gross tare)) (tareLarger gross tare) more)
+
+-- tare not larger: variable 1 alone can be other than 0
+weigh-before : (rule gross tare : ℕ) (store : List ℕ) → tare ≤ gross → (weighCall rule gross tare store) .number ≡ 0
+    → (weighCall rule gross tare store) .store ≡ countOf rule (gross - tare) ∷ replicate (length store - 1) 0
+weigh-before rule gross tare store h z =
+    let net : netLoad gross tare ≡ gross - tare = omega (arith, net-load gross tare h) in
+    weigh-accepted (λ s. s .store ≡ countOf rule (gross - tare) ∷ replicate (length store - 1) 0) rule gross tare store z
+    (ap (weighed (length store) (countOf rule (netLoad gross tare))) (not-larger gross tare h)
+    ∙ weighed-plain (length store) (countOf rule (netLoad gross tare)) (weigh-taken rule gross tare store z .0 .0)
+    ∙ ap (λ (m : ℕ). countOf rule m ∷ replicate (length store - 1) 0) net)
+
+-- equal weights: variable 1 is 0 too
+weigh-equal : (rule weight : ℕ) (store : List ℕ) → (weighCall rule weight weight store) .number ≡ 0
+    → (weighCall rule weight weight store) .store ≡ replicate (length store) 0
+weigh-equal rule weight store z =
+    let taken = weigh-taken rule weight weight store z in
+    let none : countOf rule (weight - weight) ≡ 0 = omega (arith, count-low rule (weight - weight) (taken .1)) in
+    let size : suc (length store - 1) ≡ length store = omega (arith, taken .0 .0) in
+    weigh-before rule weight weight store (omega arith) z
+    ∙ ap (λ (m : ℕ). m ∷ replicate (length store - 1) 0) none ∙ ap (λ (n : ℕ). replicate n 0) size
 
 pub weigh-means : WeighMeans
-unfolding netLoad lookup
 weigh-means = record {
-  net = λ gross tare h. omega arith;
-  netNone = λ gross tare h. omega arith;
+  net = net-load;
+  netLarger = net-larger;
+  larger = λ gross tare h. tare-larger gross tare (omega arith);
+  notLarger = not-larger;
   down = down;
   nearest = nearest;
   tenOver = ten-over;
   six = size-bad;
   eleven = rule-bad;
-  weighs = λ rule gross tare store w r. weigh-gives rule gross tare store (weigh-passes rule store w r);
+  weighsOne = weigh-one;
+  weighs = weigh-more;
+  equal = weigh-equal;
+  asBefore = weigh-before;
   weighsNot = weigh-not;
   weighsNoRule = weigh-no-rule;
-  close = λ rule gross tare store z. weigh-accepted (λ s. (20 * lookup (s .store) 1 < netLoad gross tare + 20) × (netLoad gross tare < 20 * lookup (s .store) 1 + 20)) rule gross tare store z
-      (count-close rule (netLoad gross tare));
+  close = λ rule gross tare store z. let first = weigh-first rule gross tare store z in
+      let c = count-close rule (netLoad gross tare) (weigh-taken rule gross tare store z .1) in (omega arith, omega arith);
   sameLength = weigh-length;
-  values = λ ok l rule gross tare store hg z. weigh-accepted (λ s. SmallValues ok (s .store)) rule gross tare store z
-      (λ r. let c = countOf rule (netLoad gross tare) in
-      (below-passes ok l (gross - c) c gross (omega (arith, count-low rule (netLoad gross tare) r, net-low gross tare)) hg, zeros-small ok l (length store - 1)));
+  values = λ ok l rule gross tare store g t z. let p = weights-pass ok l rule gross tare (weigh-taken rule gross tare store z .1) g t in
+      weigh-accepted (λ s. SmallValues ok (s .store)) rule gross tare store z
+      (weighed-small ok l (length store) (countOf rule (netLoad gross tare)) (tareLarger gross tare) (p .0) (p .1));
 }

@@ -1,16 +1,25 @@
--- Weighing (01 "Result and weighing", 02 C-11): gross and tare in kilograms, each a value, and the number of a rule of rounding give
--- a start store.
+-- Weighing (01 "Result and weighing", 02 C-11 and C-15): gross and tare in kilograms, each a value, and the number of a rule of rounding
+-- give a start store.
 use Prim.Native.Nat.{_+_, _-_, _/_, suc, zero, ℕ}
-use mathlib.Core.Bool.{Bool, not}
+use mathlib.Core.Bool.{Bool, cond, not}
 use mathlib.Core.List.{List, [], _∷_}
+use lib.Dec.{leb}
 use lib.ListN.{length, replicate}
 use Rattle.record.specs.Answers.{Stored, storedBy}
 use Rattle.record.specs.Rows.{Row, firstRow, row}
 use Rattle.rules.specs.Scope.{inRange}
 
--- The net load: gross less tare, 0 if tare is the larger (the difference of ℕ is 0 there).
+-- How far two numbers are apart: of the two differences of ℕ one is 0.
+abbrev pub apart : ℕ → ℕ → ℕ
+apart a b = (a - b) + (b - a)
+
+-- The net load: the difference of gross and tare, whichever is larger (02 C-15).
 unfoldable pub netLoad : ℕ → ℕ → ℕ
-netLoad gross tare = gross - tare
+netLoad gross tare = apart gross tare
+
+-- 1 when tare is larger, and otherwise 0 (02 C-15).
+unfoldable pub tareLarger : ℕ → ℕ → ℕ
+tareLarger gross tare = cond (leb tare gross) 0 1
 
 -- The count of a net load by the rule of this number (02 C-11). Rule 1 divides by 20 and rounds down. Rule 2 rounds to the nearest
 -- 20, and 10 over goes up. Every other number is refused (row 11), and 0 stands in.
@@ -20,9 +29,12 @@ countOf (suc zero) net = net / 20
 countOf (suc (suc zero)) net = (net + 10) / 20
 countOf (suc (suc (suc other))) net = 0
 
--- A store of n values: variable 1 gets the count, every other variable 0.
-unfoldable pub weighed : ℕ → ℕ → List ℕ
-weighed n count = count ∷ replicate (n - 1) 0
+-- A store of n values: variable 1 gets the count, variable 2 whether tare is larger, every other variable 0. A store of one value
+-- takes only the count (02 C-15). One of no value is refused (row 6).
+unfoldable pub weighed : ℕ → ℕ → ℕ → List ℕ
+weighed zero count larger = []
+weighed (suc zero) count larger = count ∷ []
+weighed (suc (suc n)) count larger = count ∷ larger ∷ replicate n 0
 
 -- Row 6, of weighing: not 1 to 16 values.
 unfoldable pub badSize : List ℕ → Bool
@@ -38,4 +50,5 @@ weighRows rule store = row 6 (badSize store) ∷ row 11 (badRule rule) ∷ []
 
 -- THE CALL: rule, gross, tare, store.
 unfoldable pub weighCall : ℕ → ℕ → ℕ → List ℕ → Stored
-weighCall rule gross tare store = storedBy (firstRow (weighRows rule store)) (weighed (length store) (countOf rule (netLoad gross tare))) store
+weighCall rule gross tare store =
+    storedBy (firstRow (weighRows rule store)) (weighed (length store) (countOf rule (netLoad gross tare)) (tareLarger gross tare)) store

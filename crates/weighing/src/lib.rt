@@ -1,8 +1,9 @@
-// Weighing: gross and tare in kilograms, and a rule of rounding, give a start store (01 "Result and weighing", 02 C-11).
+// Weighing: gross and tare in kilograms, and a rule of rounding, give a start store (01 "Result and weighing", 02 C-11
+// and C-15).
 ghost use mathlib.Core.Path.{_≡_};
 ghost use Prim.Native.Nat.{_≤_};
 ghost use lib.ListN.{length};
-ghost use Rattle.weighing.specs.Weigh.{countOf, netLoad, weighCall, weighed};
+ghost use Rattle.weighing.specs.Weigh.{countOf, netLoad, tareLarger, weighCall, weighed};
 use record::limit::VARIABLES;
 use record::refusal::BAD_RULE;
 use record::refusal::BAD_STORE;
@@ -20,7 +21,18 @@ const NEAREST: u32 = 2;
 pub fn net_load(gross: u32, tare: u32) -> u32
     ensures { λ r. ⌜ r ≡ netLoad gross tare ⌝ }
 {
-    if tare <= gross { gross - tare } else { 0 }
+    if tare <= gross {
+        gross - tare
+    } else {
+        tare - gross
+    }
+}
+
+// The net load has no sign: a load that leaves heavier than it came is told apart by this.
+pub fn tare_larger(gross: u32, tare: u32) -> u32
+    ensures { λ r. ⌜ r ≡ tareLarger gross tare ⌝ }
+{
+    if tare <= gross { 0 } else { 1 }
 }
 
 // A quotient is rounded down. By rule 2 the sum is one of 64 bits: 10 more than the largest value is no u32.
@@ -34,16 +46,19 @@ pub fn count_of(rule: u32, net: u32) -> u32
     }
 }
 
-// Variable 1 stands at index 0. A store with no value has no variable 1: weigh refuses it before it comes here.
-fn fill(store: &mut [u32], count: u32)
+// Variables 1 and 2 stand at indexes 0 and 1. A store with no value has no variable 1: weigh refuses it before it comes here.
+fn fill(store: &mut [u32], count: u32, larger: u32)
     requires { ⌜ 1 ≤ length (now store) ⌝ }
-    ensures { λ _. ⌜ now (store .exit) ≡ weighed (length (now (store .entry))) count ⌝ }
+    ensures { λ _. ⌜ now (store .exit) ≡ weighed (length (now (store .entry))) count larger ⌝ }
 {
     store[0] = count;
-    let mut i = 1;
-    while i < store.len() {
-        store[i] = 0;
-        i += 1;
+    if 1 < store.len() {
+        store[1] = larger;
+        let mut i = 2;
+        while i < store.len() {
+            store[i] = 0;
+            i += 1;
+        }
     }
 }
 
@@ -55,7 +70,11 @@ pub fn weigh(rule: u32, gross: u32, tare: u32, store: &mut [u32]) -> u32
     match n {
         1..=MOST => match rule {
             DOWN..=NEAREST => {
-                fill(store, count_of(rule, net_load(gross, tare)));
+                fill(
+                    store,
+                    count_of(rule, net_load(gross, tare)),
+                    tare_larger(gross, tare),
+                );
                 0
             }
             _ => BAD_RULE,

@@ -7,9 +7,14 @@ use other::{calls, library};
 /// Each is handed what it cannot know: were the rule or the number of values seen through, the plain
 /// version would be made for just these.
 pub fn print() {
-    for (rule, on) in [(1, "rule 1, 16 values"), (2, "rule 2, 16 values")] {
+    let loads = [
+        (1, 40_000, 15_000, "rule 1, 16 values"),
+        (2, 40_000, 15_000, "rule 2, 16 values"),
+        (2, 15_000, 40_000, "rule 2, tare larger"),
+    ];
+    for (rule, gross, tare, on) in loads {
         let [mut store, mut other_store, mut plain_store] = [[7; 16]; 3];
-        let weights = || black_box((rule, 40_000, 15_000));
+        let weights = || black_box((rule, gross, tare));
         let mut library = || {
             let (rule, gross, tare) = weights();
             black_box(library::weigh(rule, gross, tare, black_box(&mut store)));

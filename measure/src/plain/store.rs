@@ -30,7 +30,7 @@ pub fn weigh(rule: u32, gross: u32, tare: u32, store: &mut [u32]) -> u32 {
     if !(1..=16).contains(&store.len()) {
         return Refusal::BadStore.number();
     }
-    let net = gross.saturating_sub(tare);
+    let net = gross.abs_diff(tare);
     let count = match rule {
         1 => net / 20,
         2 => net / 20 + net % 20 / 10,
@@ -38,5 +38,8 @@ pub fn weigh(rule: u32, gross: u32, tare: u32, store: &mut [u32]) -> u32 {
     };
     store.fill(0);
     store[0] = count;
+    if let Some(larger) = store.get_mut(1) {
+        *larger = u32::from(tare > gross);
+    }
     0
 }

@@ -1,17 +1,22 @@
--- Where tare is the larger, the difference of ℕ is the 0 that the code returns.
+-- What the code takes off the larger is the smaller.
+use borrow.Author.Needs.{needs}
 use Rattle.weighing.proofs.net_load.Statement.{statement}
 use Rattle.weighing.proofs.net_load.Tie as tie
-use mathlib.Core.Path.{refl}
 use native.Mathlib.Omega.{arith}
-use Rattle.weighing.specs.Weigh.{netLoad}
+use Rattle.weighing.proofs.WeighLaws.{net-larger, net-load}
+
+sub-result : tie.Need-sub-result
+sub-result c = search needs
 
 returns : tie.Need-returns
-unfolding netLoad
-returns c = refl
+returns c =
+    let a = c .before .args in
+    omega (arith, net-load (a .gross) (a .tare) (c .if1 .taken))
 
 returns-2 : tie.Need-returns-2
-unfolding netLoad
-returns-2 c = omega arith
+returns-2 c =
+    let a = c .before .args in
+    omega (arith, net-larger (a .gross) (a .tare) (omega arith))
 
 pub net-load-spec : {M : Type 1} → statement M
-net-load-spec = tie.close (tie.spec returns returns-2)
+net-load-spec = tie.close (tie.spec sub-result returns returns-2)

@@ -11,6 +11,9 @@ net-load-requires c κs = search needs
 count-of-requires : tie.Need-count-of-requires
 count-of-requires c κs = search needs
 
+tare-larger-requires : tie.Need-tare-larger-requires
+tare-larger-requires c κs = search needs
+
 fill-requires : tie.Need-fill-requires
 fill-requires c κs = search needs
 
@@ -19,12 +22,13 @@ same-length c = search needs
 
 returns : tie.Need-returns
 returns c =
-    let a = c .before .before .before .before .before .before .before .before .before .before .before .args in
-    let net = c .before .before .before .before .net-load in
-    let count = c .before .before .before .count-of in
+    let a = c .before .before .before .before .before .before .before .before .before .before .before .before .args in
+    let net = c .before .before .before .before .before .net-load in
+    let count = c .before .before .before .before .count-of in
+    let larger = c .before .before .before .tare-larger in
     let fill = c .before .before .fill in
-    weigh-filled (a .rule) (a .gross) (a .tare) (net .result) (count .result) (a .store .now) (fill .last .0)
-    (omega arith, omega arith) (omega arith, omega arith) (net .ensures) (count .ensures) (fill .ensures)
+    weigh-filled (a .rule) (a .gross) (a .tare) (net .result) (count .result) (larger .result) (a .store .now) (fill .last .0)
+    (omega arith, omega arith) (omega arith, omega arith) (net .ensures) (count .ensures) (larger .ensures) (fill .ensures)
 
 returns-2 : tie.Need-returns-2
 returns-2 c =
@@ -52,6 +56,7 @@ weigh-spec =
     (tie.spec
     net-load-requires
     count-of-requires
+    tare-larger-requires
     fill-requires
     same-length
     returns
