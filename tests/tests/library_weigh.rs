@@ -3,12 +3,13 @@
 
 use std::cmp::Ordering;
 
-use other::both::{run_reducer, run_stepper, substitute, translate, weigh};
-use other::check::Refusal;
+use other::both::{run_counting, run_reducer, run_stepper, substitute, translate, weigh};
+use other::check::{self, Refusal};
 use other::codec::Record;
 use other::generate::lend;
 use other::generate::programs::program;
 use other::random::{cases, Counts, Random};
+use other::run::counting::words::STATE_WORDS;
 
 /// The two rules, and numbers that are none: one below, one above, the largest.
 const RULES: [u32; 5] = [0, 1, 2, 3, u32::MAX];
@@ -124,14 +125,18 @@ fn generated_weights() {
             assert!(others.all(|value| *value == 0));
         }
     });
-    seen.assert_at_least([500; 12]);
+    // Weights that are not equal and yet count 0 are less than 20 or 10 apart: rarer than the rest.
+    let (few, many) = (500, 5_000);
+    seen.assert_at_least([
+        few, many, many, few, many, few, many, many, few, many, many, many,
+    ]);
 }
 
 /// 02, C-11: the engines take the store either gives, where it has k values; also that of a load whose
-/// tare is larger (02, C-15).
+/// tare is larger (02, C-15). The counting stepper takes no program that is nested too deep.
 #[test]
 fn the_engines_take_a_weighed_store() {
-    let seen = Counts::<5>::default();
+    let seen = Counts::<6>::default();
     cases(2_000, |random| {
         let program = program(random, 300);
         let record = program.encode();
@@ -151,11 +156,17 @@ fn the_engines_take_a_weighed_store() {
             let ran = run_reducer(&mut term, written.used as usize, 50);
             assert_eq!(ran.ran.number, 0);
         }
+        if check::depth(&program).is_ok() {
+            seen.one(5);
+            let (mut state, mut store) = ([0; STATE_WORDS], store.clone());
+            let counted = run_counting(&record, record.len(), &mut state, &mut store, 50);
+            assert_eq!(counted.number, 0);
+        }
         let mut buffer = lend(&record, record.len() + 500);
         assert_eq!(
             run_stepper(&mut buffer, record.len(), &mut store, 50).number,
             0
         );
     });
-    seen.assert_at_least([300, 300, 300, 300, 1_500]);
+    seen.assert_at_least([300, 300, 300, 300, 1_500, 1_500]);
 }

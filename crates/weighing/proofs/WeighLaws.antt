@@ -4,7 +4,7 @@ use mathlib.Core.Path.{ap, refl, subst, sym, _∙_, _≡_}
 use mathlib.Core.Logic.{inl, inr, _↔_}
 use mathlib.Core.Bool.{Bool, cond, false, true}
 use mathlib.Core.List.{List, [], _∷_}
-use borrow.Author.Tests.{le-leb, leb-false, leb-true, lt-leb, not-false}
+use borrow.Author.Tests.{le-ltb, leb-false, leb-true, lt-ltb, not-false}
 use lib.Dec.{leb}
 use lib.ListN.{length, length-replicate, replicate}
 use native.Mathlib.Omega.{arith}
@@ -47,11 +47,11 @@ net-larger gross tare h = omega arith
 
 pub tare-larger : (gross tare : ℕ) → gross < tare → tareLarger gross tare ≡ 1
 unfolding tareLarger
-tare-larger gross tare h = ap (λ (b : Bool). cond b 0 1) (lt-leb tare gross h)
+tare-larger gross tare h = ap (λ (b : Bool). cond b 1 0) (lt-ltb gross tare h)
 
 pub not-larger : (gross tare : ℕ) → tare ≤ gross → tareLarger gross tare ≡ 0
 unfolding tareLarger
-not-larger gross tare h = ap (λ (b : Bool). cond b 0 1) (le-leb tare gross h)
+not-larger gross tare h = ap (λ (b : Bool). cond b 1 0) (le-ltb gross tare h)
 
 -- THE RULES
 
@@ -225,18 +225,12 @@ module _ (ok : ℕ → Bool) (l : Limit ok) where
   weighed-small (suc zero) count larger c t = (c, tt)
   weighed-small (suc (suc n)) count larger c t = (c, (t, zeros-small n))
 
-  -- the count is no more than the larger of gross and tare, and where tare is larger it is 1 at least
-  module _ (rule gross tare : ℕ) (r : IsRule rule) (g : ok gross ≡ true) (t : ok tare ≡ true) where
-    weights-pass : (ok (countOf rule (netLoad gross tare)) ≡ true) × (ok (tareLarger gross tare) ≡ true)
+  -- what is no more than the net load is no more than gross or no more than tare; and a tare that is larger is 1 at least
+  module _ (gross tare count : ℕ) (low : count ≤ netLoad gross tare) (g : ok gross ≡ true) (t : ok tare ≡ true) where
+    weights-pass : (ok count ≡ true) × (ok (tareLarger gross tare) ≡ true)
     weights-pass = by-test (leb tare gross) refl
       where
-        count : ℕ
-        count = countOf rule (netLoad gross tare)
-
-        low : countOf rule (netLoad gross tare) ≤ netLoad gross tare
-        low = count-low rule (netLoad gross tare) r
-
-        by-test : (b : Bool) → leb tare gross ≡ b → (ok (countOf rule (netLoad gross tare)) ≡ true) × (ok (tareLarger gross tare) ≡ true)
+        by-test : (b : Bool) → leb tare gross ≡ b → (ok count ≡ true) × (ok (tareLarger gross tare) ≡ true)
         by-test true e =
             let h = leb-true tare gross e in
             (below-passes (gross - count) count gross (omega (arith, low, net-load gross tare h)) g, ap ok (not-larger gross tare h) ∙ l .zeroPasses)
@@ -326,7 +320,7 @@ weigh-means = record {
   close = λ rule gross tare store z. let first = weigh-first rule gross tare store z in
       let c = count-close rule (netLoad gross tare) (weigh-taken rule gross tare store z .1) in (omega arith, omega arith);
   sameLength = weigh-length;
-  values = λ ok l rule gross tare store g t z. let p = weights-pass ok l rule gross tare (weigh-taken rule gross tare store z .1) g t in
-      weigh-accepted (λ s. SmallValues ok (s .store)) rule gross tare store z
-      (weighed-small ok l (length store) (countOf rule (netLoad gross tare)) (tareLarger gross tare) (p .0) (p .1));
+  values = λ ok l rule gross tare store g t z. let count : ℕ = countOf rule (netLoad gross tare) in
+      let p = weights-pass ok l gross tare count (count-low rule (netLoad gross tare) (weigh-taken rule gross tare store z .1)) g t in
+      weigh-accepted (λ s. SmallValues ok (s .store)) rule gross tare store z (weighed-small ok l (length store) count (tareLarger gross tare) (p .0) (p .1));
 }

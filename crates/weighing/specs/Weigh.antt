@@ -3,7 +3,7 @@
 use Prim.Native.Nat.{_+_, _-_, _/_, suc, zero, ℕ}
 use mathlib.Core.Bool.{Bool, cond, not}
 use mathlib.Core.List.{List, [], _∷_}
-use lib.Dec.{leb}
+use lib.Dec.{ltb}
 use lib.ListN.{length, replicate}
 use Rattle.record.specs.Answers.{Stored, storedBy}
 use Rattle.record.specs.Rows.{Row, firstRow, row}
@@ -19,7 +19,7 @@ netLoad gross tare = apart gross tare
 
 -- 1 when tare is larger, and otherwise 0 (02 C-15).
 unfoldable pub tareLarger : ℕ → ℕ → ℕ
-tareLarger gross tare = cond (leb tare gross) 0 1
+tareLarger gross tare = cond (ltb gross tare) 1 0
 
 -- The count of a net load by the rule of this number (02 C-11). Rule 1 divides by 20 and rounds down. Rule 2 rounds to the nearest
 -- 20, and 10 over goes up. Every other number is refused (row 11), and 0 stands in.

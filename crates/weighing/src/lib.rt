@@ -32,7 +32,7 @@ pub fn net_load(gross: u32, tare: u32) -> u32
 pub fn tare_larger(gross: u32, tare: u32) -> u32
     ensures { λ r. ⌜ r ≡ tareLarger gross tare ⌝ }
 {
-    if tare <= gross { 0 } else { 1 }
+    if gross < tare { 1 } else { 0 }
 }
 
 // A quotient is rounded down. By rule 2 the sum is one of 64 bits: 10 more than the largest value is no u32.
