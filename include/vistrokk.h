@@ -2,11 +2,12 @@
  * docs/FORMAT.md says what the records are.
  *
  * Lent memory: a buffer is a pointer and its length in bytes; its first `used` bytes are the record. A store is a pointer to
- * 32-bit values, aligned to 4 bytes, and their number; its first value is variable 1's. A state is a pointer to 189 words, aligned
- * to 4 bytes. Memory lent to one call must not overlap. NULL may be lent only with length 0. No call keeps a pointer.
+ * 32-bit values, aligned to 4 bytes, and their number; its first value is variable 1's. So are a batch's budgets, values and answers.
+ * A state is a pointer to 189 words, aligned to 4 bytes. Memory lent to one call must not overlap. NULL may be lent only with length
+ * 0. No call keeps a pointer.
  *
  * Reentrant, no statics, no allocation: the archive has code and constants alone, and the one symbol that it needs from outside
- * is memset. No call needs more than about 2 KB of stack (translate: 3 KB).
+ * is memset. No call needs more than about 2 KB of stack (run_batch: 2.2 KB).
  *
  * Every call ends, and answers VISTROKK_ACCEPTED or the number of the first refusal that applies. A refusal gives 0 for everything
  * else and changes no byte that was lent.
@@ -21,26 +22,29 @@
 extern "C" {
 #endif
 
-/* The longest buffer that may be lent, in bytes, and the most variables of a program; a store has at most as many values. */
+/* The longest buffer that may be lent, in bytes; the most variables of a program, and a store has at most as many values; the most
+ * stores of a batch. */
 #define VISTROKK_BUFFER_MOST 16384
 #define VISTROKK_VARIABLES_MOST 16
+#define VISTROKK_BATCH_MOST 64
 
 /* The refusals: the number that a call answers. They are tested in the order of this list, which is not that of the numbers. */
 enum vistrokk_refusal {
     VISTROKK_ACCEPTED = 0,
     VISTROKK_BAD_BUFFER = 1,       /* a buffer above 16,384 bytes, or `used` above its buffer */
+    VISTROKK_BAD_BATCH = 14,       /* batch: no store, or more than 64 */
     VISTROKK_BAD_HEADER = 2,       /* under 8 bytes used, or wrong kind, or the length in the record is not `used` */
     VISTROKK_BAD_K = 3,            /* k not 1 to 16 */
     VISTROKK_MALFORMED = 4,        /* bytes outside the grammar, variable numbers disregarded */
     VISTROKK_BAD_VARIABLE = 5,     /* a variable number not 1 to k */
     VISTROKK_TOO_DEEP = 12,        /* counting: blocks and loops nested over 32 deep, the outermost block counted */
-    VISTROKK_BAD_STORE = 6,        /* the store has not k values; weighing: not 1 to 16 */
+    VISTROKK_BAD_STORE = 6,        /* the store has not k values; weighing: not 1 to 16; batch: values, or answers, of another length */
     VISTROKK_BAD_RULE = 11,        /* weighing: a rule number other than 1 or 2 */
     VISTROKK_BAD_STATE = 13,       /* counting: words that hold no state of the program */
     VISTROKK_FREE_VARIABLE = 7,    /* a free variable in the term */
     VISTROKK_UNFINISHED = 8,       /* the term is not finished */
     VISTROKK_NO_PROGRAM = 9,       /* no program translates to the term */
-    VISTROKK_OUTPUT_TOO_SHORT = 10 /* the answer is longer than the output buffer */
+    VISTROKK_OUTPUT_TOO_SHORT = 10 /* the answer is longer than the output buffer; batch: the term than one of the two */
 };
 
 /* number: VISTROKK_ACCEPTED or the refusal; k: the record's number of variables, 0 with a refusal. */
@@ -142,6 +146,17 @@ typedef struct { uint32_t number, outcome, steps, left, used; uint64_t replaced;
  * grow; it is changed in place. Refusals 1 to 5 and 7. Accepted, buf holds the record of the term that is left and zeros behind
  * it up to buf_len, also after 0 reductions. */
 vistrokk_reduced vistrokk_run_reducer(uint8_t *buf, size_t buf_len, size_t used, uint32_t budget);
+
+/* Runs the reducer on each of 1 to 64 start stores of one program, which is checked and translated once. `budgets` has one budget for
+ * each store, so its length tells how many there are. `values` has k values for each and `answers` takes k + 2 for each, store after
+ * store in the order of the budgets: the outcome's number (of enum vistrokk_outcome), the steps made, and the k end values, or k zeros
+ * where the run is not finished. Each answer is that of vistrokk_substitute, vistrokk_run_reducer and vistrokk_result on that store
+ * alone, in a buffer of work_len bytes; none depends on another. Refusals 1 (all three buffers), 14, 2 to 5, 6 (values not budgets_len
+ * times k, or answers not budgets_len times k + 2) and 10. Accepted, `term` holds the program's term, of which `used` is the length, and
+ * zeros behind it; `work` is all zero; `answers` has its values. */
+vistrokk_written vistrokk_run_batch(const uint8_t *program, size_t program_len, size_t used, uint8_t *term, size_t term_len,
+    uint8_t *work, size_t work_len, const uint32_t *budgets, size_t budgets_len, const uint32_t *values, size_t values_len,
+    uint32_t *answers, size_t answers_len);
 
 #ifdef __cplusplus
 }

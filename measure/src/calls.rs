@@ -4,6 +4,7 @@
 //! A call that writes its input gets it anew each time, so the times of such a call have that of a
 //! copy of the buffer in them. Every buffer is 16,384 bytes long.
 
+mod batch;
 mod check;
 mod counting;
 mod reducer;
@@ -25,6 +26,7 @@ pub fn print() {
     stepper::print();
     counting::print();
     reducer::print();
+    batch::print();
     println!();
 }
 

@@ -1,6 +1,7 @@
 //! What `./bench` prints: times as ratios, all taken in one run. No number here makes anything fail.
 
 mod calls;
+mod jobs;
 mod layer;
 mod plain;
 mod stack;
@@ -11,6 +12,7 @@ fn main() {
     other::tree::with_big_stack(|| {
         plain::agree();
         calls::print();
+        jobs::print();
     });
     stack::print();
 }

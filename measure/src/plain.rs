@@ -1,6 +1,7 @@
 //! The calls as they would be written on bytes in plain Rust: in place, with no tree and no heap,
 //! with recursion where the grammar has it, and with no proof. What the library is to be held to.
 
+pub mod batch;
 pub mod check;
 pub mod counting;
 pub mod expand;
@@ -14,6 +15,7 @@ pub mod translate;
 use other::calls::{self, Ran};
 use other::check::depth;
 use other::codec::Record;
+use other::generate::batches::any_batch;
 use other::generate::lending::output_room;
 use other::generate::lending::{
     closed, perhaps_damaged, sound_term, translatable_program, Lending,
@@ -83,7 +85,7 @@ impl State<'_> {
         self.used - narrow + wide <= self.buf.len()
     }
 
-    fn end(self, outcome: Outcome, steps: u32, budget: u32) -> Ran {
+    fn end(self, (outcome, steps): (Outcome, u32), budget: u32) -> Ran {
         self.buf[self.used..].fill(0);
         Ran {
             number: 0,
@@ -109,25 +111,25 @@ enum Ahead {
 
 /// The run that both engines share: what a step needs is looked at before it is made.
 fn run(
-    mut state: State,
+    state: &mut State,
     budget: u32,
     ahead: impl Fn(&State) -> Ahead,
     mut perform: impl FnMut(&mut State, usize, usize, usize),
-) -> Ran {
+) -> (Outcome, u32) {
     let mut steps = 0;
     loop {
-        let (at, narrow, wide) = match ahead(&state) {
-            Ahead::Finished => return state.end(Outcome::Finished, steps, budget),
-            Ahead::Over => return state.end(Outcome::Over, steps, budget),
+        let (at, narrow, wide) = match ahead(state) {
+            Ahead::Finished => return (Outcome::Finished, steps),
+            Ahead::Over => return (Outcome::Over, steps),
             Ahead::Step { at, narrow, wide } => (at, narrow, wide),
         };
         if !state.fits(narrow, wide) {
-            return state.end(Outcome::NoRoom, steps, budget);
+            return (Outcome::NoRoom, steps);
         }
         if steps == budget {
-            return state.end(Outcome::Spent, steps, budget);
+            return (Outcome::Spent, steps);
         }
-        perform(&mut state, at, narrow, wide);
+        perform(state, at, narrow, wide);
         steps += 1;
     }
 }
@@ -157,6 +159,7 @@ pub fn agree() {
         agree_on_term(&perhaps_damaged(random, &term.encode()), &values, budget);
         substitute_in(&mut term.term, &values_of(&values));
         agree_on_term(&perhaps_damaged(random, &term.encode()), &values, budget);
+        agree_on_batch(random);
     }
 }
 
@@ -235,4 +238,12 @@ fn agree_on_term(Lending { buffer, used }: &Lending, values: &[u32], budget: u32
     let ran = reducer::run_reducer(&mut buf, *used, budget);
     assert_eq!(ran, calls::run_reducer(&mut other_buf, *used, budget));
     assert_eq!(buf, other_buf);
+}
+
+fn agree_on_batch(random: &mut Random) {
+    let mut lent = any_batch(random);
+    let mut other_lent = lent.clone();
+    let written = lent.run(batch::run_batch);
+    assert_eq!(written, other_lent.run(calls::run_batch));
+    assert!(lent == other_lent);
 }

@@ -5,6 +5,7 @@
 //! answers are equal and every byte and value of every slice is. So a test that calls these and
 //! states what 01 says is a test of both.
 
+mod batch;
 mod check;
 mod counting;
 mod reducer;
@@ -12,6 +13,7 @@ mod stepper;
 mod terms;
 mod weigh;
 
+pub use batch::run_batch;
 pub use check::{check_program, check_term};
 pub use counting::{expand, run_counting};
 pub use reducer::run_reducer;

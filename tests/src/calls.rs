@@ -1,4 +1,4 @@
-//! Every call over bytes: the eleven functions of `include/vistrokk.h`.
+//! Every call over bytes: the twelve functions of `include/vistrokk.h`.
 //!
 //! Each one tests its rows in the table's order before it changes anything. A refusal gives its number
 //! and 0 for everything else, and leaves every lent slice as it came. After an accepted call the
@@ -301,6 +301,70 @@ fn closed_term(buf: &[u8], used: usize) -> Result<TermRecord, Refusal> {
     let record: TermRecord = check::lent(buf, used)?;
     without_free_variable(&record.term)?;
     Ok(record)
+}
+
+// Rows 1 (all three buffers), 14, 2–5, 6, 10.
+
+/// One job for each budget: the reducer's run from its start store (02, C-16). `term` is left holding the
+/// program's term, and `work`, in which the reducer runs, all zero.
+pub fn run_batch(
+    program: &[u8],
+    used: usize,
+    term: &mut [u8],
+    work: &mut [u8],
+    budgets: &[u32],
+    values: &[u32],
+    answers: &mut [u32],
+) -> Written {
+    let rooms = [term.len(), work.len()];
+    let lengths = [budgets.len(), values.len(), answers.len()];
+    let record = match term_of_all(program, used, rooms, lengths) {
+        Ok(record) => record,
+        Err(refusal) => return Written::refused(refusal),
+    };
+    let k = record.k as usize;
+    let jobs = budgets.iter().zip(values.chunks_exact(k));
+    for ((budget, store), answer) in jobs.zip(answers.chunks_exact_mut(k + 2)) {
+        answer.copy_from_slice(&answer_to(&record, store, work.len(), *budget));
+    }
+    work.fill(0);
+    Written {
+        number: 0,
+        used: put(term, &record.encode()),
+    }
+}
+
+/// The term that all jobs start from. `lengths` are those of the budgets, the values and the answers.
+fn term_of_all(
+    program: &[u8],
+    used: usize,
+    rooms: [usize; 2],
+    [jobs, values, answers]: [usize; 3],
+) -> Result<TermRecord, Refusal> {
+    check::buffer(program.len(), used)?;
+    for room in rooms {
+        check::buffer(room, 0)?;
+    }
+    check::batch(jobs)?;
+    let program: Program = check::record(&program[..used])?;
+    let k = program.k as usize;
+    if values != jobs * k || answers != jobs * (k + 2) {
+        return Err(Refusal::BadStore);
+    }
+    let record = translate::translate(&program);
+    if rooms.iter().any(|room| record.encoded_len() > *room) {
+        return Err(Refusal::OutputTooShort);
+    }
+    Ok(record)
+}
+
+/// The k + 2 values of one job: outcome, steps, and the end values, or zeros where it is not finished.
+fn answer_to(term: &TermRecord, store: &[u32], room: usize, budget: u32) -> Vec<u32> {
+    let mut record = term.clone();
+    substitute_in(&mut record.term, &values_of(store));
+    let (outcome, steps) = run::run(&mut record, room, budget);
+    let end = finished_values(&record.term).unwrap_or_else(|| vec![0; store.len()]);
+    [vec![outcome.number(), steps], end].concat()
 }
 
 // Rows 1–8: the store before the free variable, and that before "not finished".

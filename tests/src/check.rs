@@ -1,4 +1,4 @@
-//! Rows 1 to 5 of 01, "Where an order stops", row 12 of 02, and the numbers of all: 01's ten and 02's.
+//! Rows 1 to 5 of 01, "Where an order stops", rows 12 and 14 of 02, and the numbers of all: 01's ten and 02's.
 
 use crate::codec::Record;
 use crate::tree::{Block, Command, Program};
@@ -9,6 +9,8 @@ use crate::tree::{Block, Command, Program};
 pub enum Refusal {
     /// A buffer above 16,384 bytes, or a used length above its buffer.
     BadBuffer = 1,
+    /// A batch of no store, or of more than 64 (02, C-16: after refusal 1).
+    BadBatch = 14,
     /// Under 8 bytes used, or the wrong kind, or a length that is not the used length.
     BadHeader = 2,
     /// k is not 1 to 16.
@@ -57,6 +59,17 @@ const HEADER: usize = 8;
 pub fn buffer(len: usize, used: usize) -> Result<(), Refusal> {
     if len > BUFFER_LIMIT || used > len {
         return Err(Refusal::BadBuffer);
+    }
+    Ok(())
+}
+
+/// The most stores of a batch (02, C-16).
+pub const BATCH_LIMIT: usize = 64;
+
+/// Row 14, for so many stores.
+pub fn batch(stores: usize) -> Result<(), Refusal> {
+    if !(1..=BATCH_LIMIT).contains(&stores) {
+        return Err(Refusal::BadBatch);
     }
     Ok(())
 }

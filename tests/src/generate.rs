@@ -1,6 +1,7 @@
 //! Seeded generators: sound programs and terms, damaged records, stores, budgets, lists of runs, states of
-//! the counting stepper.
+//! the counting stepper, batches.
 
+pub mod batches;
 pub mod damage;
 pub mod lending;
 pub mod programs;

@@ -8,6 +8,7 @@
 //! from every other. A state's length does not go over: its type has it. That is what the header asks
 //! of a caller.
 
+mod batch;
 mod check;
 mod counting;
 mod ran;
@@ -16,6 +17,7 @@ mod stepper;
 mod terms;
 mod weigh;
 
+pub use batch::run_batch;
 pub use check::{check_program, check_term};
 pub use counting::{expand, run_counting};
 pub use reducer::run_reducer;

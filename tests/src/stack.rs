@@ -13,6 +13,7 @@ use std::arch::asm;
 
 use crate::calls;
 use crate::extremes::Records;
+use crate::generate::batches::{job, Batch};
 use crate::generate::lend;
 use crate::generate::states::held;
 use crate::run::counting::words::{Words, STATE_WORDS};
@@ -62,17 +63,20 @@ pub struct Slices {
     pub out: Vec<u8>,
     pub store: Vec<u32>,
     pub state: Box<Words>,
+    pub batch: Batch,
 }
 
 impl Slices {
-    /// Buffers of 16,384 bytes, and a store of k values.
+    /// Buffers of 16,384 bytes, and a store of k values; two of them for a batch.
     fn holding(record: &[u8]) -> Slices {
+        let store = vec![3; usize::from(record[4])];
         Slices {
             buffer: lend(record, 16_384),
             used: record.len(),
             out: vec![0; 16_384],
-            store: vec![3; usize::from(record[4])],
             state: fullest_state(record),
+            batch: Batch::of(record, &[job(&store, 10_000), job(&store, 3)]),
+            store,
         }
     }
 }

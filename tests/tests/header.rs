@@ -5,7 +5,7 @@
 use std::fs;
 use std::path::Path;
 
-use other::check::{Refusal, BUFFER_LIMIT};
+use other::check::{Refusal, BATCH_LIMIT, BUFFER_LIMIT};
 use other::run::counting::words::STATE_WORDS;
 use other::run::Outcome;
 
@@ -43,12 +43,13 @@ fn in_capitals(name: impl std::fmt::Debug) -> String {
     capitals
 }
 
-/// In the table's order, which the header promises: 12 stands behind 5, and 11 and 13 behind 6.
+/// In the table's order, which the header promises: 14 stands behind 1, 12 behind 5, and 11 and 13 behind 6.
 #[test]
 fn the_refusals_have_their_numbers_in_the_order_of_the_table() {
     let mut wanted = vec![("ACCEPTED".to_string(), 0)];
     let refusals = [
         Refusal::BadBuffer,
+        Refusal::BadBatch,
         Refusal::BadHeader,
         Refusal::BadK,
         Refusal::Malformed,
@@ -115,6 +116,7 @@ fn the_answers_have_their_fields() {
         ("reduced", "run_reducer"),
         ("counted", "run_counting"),
         ("written", "expand"),
+        ("written", "run_batch"),
     ];
     for (answer, call) in calls {
         let start = format!("\nvistrokk_{answer} vistrokk_{call}(");
@@ -134,9 +136,27 @@ fn a_state_has_189_words() {
     }
 }
 
+/// 02, C-16: what a batch is lent, in the order of the call.
 #[test]
-fn the_limits_are_01s() {
-    let limits = [("BUFFER_MOST", BUFFER_LIMIT), ("VARIABLES_MOST", 16)];
+fn a_batch_is_lent_three_buffers_and_three_rows_of_words() {
+    let lent =
+        "const uint8_t *program, size_t program_len, size_t used, uint8_t *term, size_t term_len, \
+        uint8_t *work, size_t work_len, const uint32_t *budgets, size_t budgets_len, \
+        const uint32_t *values, size_t values_len, uint32_t *answers, size_t answers_len";
+    let header = header();
+    let words: Vec<&str> = header.split_whitespace().collect();
+    assert!(words
+        .join(" ")
+        .contains(&format!("vistrokk_run_batch({lent});")));
+}
+
+#[test]
+fn the_limits_are_01s_and_02s() {
+    let limits = [
+        ("BUFFER_MOST", BUFFER_LIMIT),
+        ("VARIABLES_MOST", 16),
+        ("BATCH_MOST", BATCH_LIMIT),
+    ];
     for (name, limit) in limits {
         let line = format!("\n#define VISTROKK_{name} {limit}\n");
         assert!(header().contains(&line), "{name}");

@@ -1,11 +1,13 @@
-//! 01's "Mistakes that pass a quick trial", and those that 02's count of replaced variables (C-13) and
-//! its loops carried as counts (C-14) leave room for, each with the value that the rules give.
+//! 01's "Mistakes that pass a quick trial", and those that 02's count of replaced variables (C-13), its
+//! loops carried as counts (C-14) and its batches (C-16) leave room for, each with the value that the rules
+//! give.
 
 use other::both::{
-    expand, run_counting, run_reducer, run_stepper, substitute as substitute_over_bytes,
+    expand, run_batch, run_counting, run_reducer, run_stepper, substitute as substitute_over_bytes,
 };
 use other::codec::Record;
-use other::examples::{nest_of_blocks, nest_of_loops, program};
+use other::examples::{add, nest_of_blocks, nest_of_loops, program};
+use other::generate::batches::{job, Batch, Job};
 use other::generate::lend;
 use other::generate::states::{
     at_zero, block as open_block, body, index, unrolling, waiting, words,
@@ -411,4 +413,84 @@ fn what_is_not_held_is_0() {
     let mut lent = tidy;
     lent[7] = u32::MAX;
     assert_eq!(counted(empty_loop(2), lent, &[9], 0), (0, tidy, vec![9]));
+}
+
+/// What an accepted batch answers, all in a row.
+fn batch_answers(program: &Program, jobs: &[Job]) -> Vec<u32> {
+    let mut batch = Batch::of(&program.encode(), jobs);
+    assert_eq!(batch.run(run_batch).number, 0);
+    batch.answers
+}
+
+fn plus_one() -> Program {
+    program(1, vec![assign(1, Expr::PlusOne(1))])
+}
+
+/// A job starts from what the last one left, or all from the first store: {x1 := x1 + 1} on 5 behind a job that
+/// is finished, spent after 1 or over, and then on 9. From the term left the second would be finished after
+/// 0, finished after 1, or over; from the values left by the first it would show 7.
+#[test]
+fn each_job_starts_from_its_own_store() {
+    let nine = job(&[9], 2);
+    for (first, answer) in [
+        (job(&[5], 2), [1, 2, 6]),
+        (job(&[5], 1), [4, 1, 0]),
+        (job(&[u32::MAX], 2), [2, 0, 0]),
+    ] {
+        let jobs = [first, job(&[5], 2), nine.clone()];
+        let wanted = [answer, [1, 2, 6], [1, 2, 10]].concat();
+        assert_eq!(batch_answers(&plus_one(), &jobs), wanted);
+    }
+}
+
+/// The store substituted in the term that all jobs share: the buffer is left with variables in it, and the
+/// term of {x1 := x1 + 1} is x1 = succ x1 in (x1), whose two atoms stand at 20 and 32.
+#[test]
+fn the_shared_term_keeps_its_variables() {
+    let mut batch = Batch::of(&plus_one().encode(), &[job(&[5], 2), job(&[6], 2)]);
+    assert_eq!(batch.run(run_batch).used, 40);
+    for atom in [20, 32] {
+        assert_eq!(batch.term[atom..atom + 8], [8, 0, 33, 0, 1, 0, 0, 0]);
+    }
+}
+
+/// Zeros for a finished job, or values for one that is not; outcome and count exchanged. {x1 := x1 + 1} on
+/// 5 has worked out its 6 after one step; P3 of ADD has stored three values when it goes over.
+#[test]
+fn values_are_shown_of_a_finished_job_alone() {
+    let jobs = [job(&[5], 0), job(&[5], 1), job(&[5], 2), job(&[5], 3)];
+    let wanted = [4, 0, 0, 4, 1, 0, 1, 2, 6, 1, 2, 6];
+    assert_eq!(batch_answers(&plus_one(), &jobs), wanted);
+    let jobs = [job(&[u32::MAX, 1, 0, 0], 9), job(&[7, 3, 0, 0], 18)];
+    let wanted = [2, 5, 0, 0, 0, 0, 1, 18, 7, 3, 10, 3];
+    assert_eq!(batch_answers(&add(), &jobs), wanted);
+}
+
+/// The count as the budget left, or a budget for all jobs together: each has its own, in its place.
+#[test]
+fn each_job_has_its_own_budget() {
+    let jobs = [job(&[5], 7), job(&[5], 1), job(&[5], 0), job(&[5], 2)];
+    let wanted = [1, 2, 6, 4, 1, 0, 4, 0, 0, 1, 2, 6];
+    assert_eq!(batch_answers(&plus_one(), &jobs), wanted);
+}
+
+/// 65 stores taken, 64 refused, or none taken.
+#[test]
+fn a_batch_has_1_to_64_stores() {
+    for (stores, number) in [(0, 14), (1, 0), (64, 0), (65, 14)] {
+        let mut batch = Batch::of(&plus_one().encode(), &vec![job(&[5], 2); stores]);
+        assert_eq!(batch.run(run_batch).number, number);
+    }
+}
+
+/// 14 after 2, or before 1: a term where a program should be, and no store; and then a used length above
+/// its buffer.
+#[test]
+fn the_number_of_stores_is_looked_at_before_the_header() {
+    let mut batch = Batch::of(&translate(&plus_one()).encode(), &[]);
+    assert_eq!(batch.run(run_batch).number, 14);
+    batch.used += 1;
+    assert_eq!(batch.run(run_batch).number, 1);
+    let mut batch = Batch::of(&translate(&plus_one()).encode(), &[job(&[5], 2)]);
+    assert_eq!(batch.run(run_batch).number, 2);
 }

@@ -4,6 +4,8 @@ use mathlib.Core.Path.{refl, _≡_}
 use mathlib.Core.Bool.{true}
 use mathlib.Core.List.{List, map}
 use mathlib.Core.Option.{none}
+use Rattle.batch.specs.RunBatch.{batchRows}
+use Rattle.batch.proofs.RunBatchLaws.{batch-number, batch-refused}
 use Rattle.counting.specs.CountingCall.{countingRows, expandRows}
 use Rattle.counting.proofs.CountingRanLaws.{counting-number, counting-refused}
 use Rattle.counting.proofs.ExpandCallLaws.{expand-number, expand-refused}
@@ -40,6 +42,8 @@ demand1 = record {
   weighNumber = λ rule gross tare store. numbers (weighRows rule store) _ refl refl (weigh-number rule gross tare store);
   countingNumber = λ buf used words store budget. numbers (countingRows buf used words store) _ refl refl (counting-number buf used words store budget);
   expandNumber = λ buf used words store out. numbers (expandRows buf used words store out) _ refl refl (expand-number buf used words store out);
+  batchNumber = λ program used term work budgets values answers.
+      numbers (batchRows program used term work budgets values answers) _ refl refl (batch-number program used term work budgets values answers);
   checkProgramRefused = check-program-refused;
   checkTermRefused = check-term-refused;
   translateRefused = translate-refused;
@@ -51,4 +55,5 @@ demand1 = record {
   weighRefused = weigh-refused;
   countingRefused = counting-refused;
   expandRefused = expand-refused;
+  batchRefused = batch-refused;
 }

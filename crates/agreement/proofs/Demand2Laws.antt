@@ -6,6 +6,7 @@ use mathlib.Core.Bool.{false}
 use Rattle.record.specs.declared.Header.{Header}
 use Rattle.record.specs.Header.{largestOf, okOf}
 use Rattle.stepper.specs.RunStepper.{steps}
+use Rattle.batch.proofs.BatchMeaningLaws.{batch-means}
 use Rattle.counting.proofs.CountingMeaningLaws.{counting-means}
 use Rattle.record.proofs.HoldingLaws.{check-program, check-term}
 use Rattle.record.proofs.RowMeaningLaws.{rows-mean}
@@ -44,6 +45,7 @@ demand2 = record {
   callsMean = calls-mean;
   weighMeans = weigh-means;
   countingMeans = counting-means;
+  batchMeans = batch-means;
   checksProgram = check-program;
   checksTerm = check-term;
   runsStepper = λ hd P buf used store budget h l e hs. stepper-ran h l store e hs budget;

@@ -1,11 +1,13 @@
 -- WITNESSES, by computing. Demand 3's hypotheses can be met: a start, and a list of orders to the three engines with refused ones in it
--- after which their totals are equal; and those of C-11's theorem about weighed stores. And the two engines' room may give out at different totals.
+-- after which their totals are equal; and those of C-11's theorem about weighed stores. And the two engines' room may give out at different
+-- totals. And a batch with every outcome.
 use Prim.Native.Nat.{ℕ}
 use mathlib.Core.Path.{refl, sym, _∙_, _≡_}
-use mathlib.Core.List.{_++_, List, [], _∷_}
+use mathlib.Core.List.{_++_, List, [], flatMap, _∷_}
 use lib.Dec.{lit<, lit≤}
 use lib.ListN.{length, replicate, take}
 use native.Mathlib.Omega.{arith}
+use Rattle.batch.specs.RunBatch.{answerOf, answersOf, badBatch, badValues, batchBy, endValues, jobs, longerThanEither, runAlone, runBatch}
 use Rattle.buffer.specs.LittleEndian.{le, val}
 use Rattle.counting.specs.CountStep.{countStep, enterLoop, stepHere, stepIn, stepState, stepSum, turnDone}
 use Rattle.counting.specs.Counting.{expand, turnsAround}
@@ -208,3 +210,17 @@ rooms-differ = record {
   reducerStops = record { outcome = refl; steps = refl };
   differ = λ e. omega arith;
 }
+
+-- A BATCH with every outcome (02 C-16), its reducer's buffer 384 bytes long: ADD on P1's store, on P3's, which goes over, on 0, 1000, which
+-- has room for three turns, and on P1's again with a step less than it takes
+pub batch-witness : runBatch program 64 (replicate 172 9) (replicate 384 9) (1000000 ∷ 1000000 ∷ 1000000 ∷ 17 ∷ [])
+    (7 ∷ 3 ∷ 0 ∷ 0 ∷ largestOf (ofVariables 4) ∷ 1 ∷ 0 ∷ 0 ∷ 0 ∷ 1000 ∷ 0 ∷ 0 ∷ 7 ∷ 3 ∷ 0 ∷ 0 ∷ []) (replicate 24 9)
+    ≡ record {
+      number = 0;
+      used = 172;
+      term = encodeTerm (ofVariables 4) (translate 4 add);
+      work = replicate 384 0;
+      answers = 1 ∷ 18 ∷ 7 ∷ 3 ∷ 10 ∷ 3 ∷ 2 ∷ 5 ∷ 0 ∷ 0 ∷ 0 ∷ 0 ∷ 3 ∷ 4 ∷ 0 ∷ 0 ∷ 0 ∷ 0 ∷ 4 ∷ 17 ∷ 0 ∷ 0 ∷ 0 ∷ 0 ∷ [];
+    }
+unfolding adding closedAtom closedAtoms closedSimple closedIn closed valueOf unrollRec reduceInside reduceLetOne reduce onNext orStop outcomeOf stop oneMore goOn runOn run inRange exprInRange boundInRange blockInRange atomInRange atomsInRange simpleInRange termInRange upTo fromStore only except orRef substituteAtom substituteSimple substitute refs simpleOf atomOf translate le val padded storedBy fuelled fixed lengthField kindField kField kindOf largestOf fieldsOf contentsAt contents headed blockBytes encodeTermRecord blockIn termIn encodeProgram encodeTerm exprKind exprNumber boundKind boundNumber exprFrom boundFrom encodeBlock blockSize commandKind decodeCommand decodeBlockPart decodeBlockStep decodeBlock then bind atEnd fromSome pick word ofKind subOf sub encodeLeaf leafOf leaf anyRecordOf anyRecord encodeRecord cut split pickRow firstRow isNone holds orElse tooLong badBuffer badHeader badK badBlock badTerm blockOutside termOutside badStore openTerm finishedTerm unfinished atomKind atomNumber atomFrom encodeAtoms decodeAtoms simpleKindIf encodeSimple simpleSize onlyAtom plainOf simpleBy simpleFrom readSimple kindOfTerm termContents termSize termKindIf termKind lastTerm decodeTermKind decodeTermStep measureTerm decodeTerm outcomeNumber roomFor tooShort substituteCall substitutedBy given replaced replacedAtom replacedAtoms replacedSimple replacedLetOne replacedLetAll replacedNext orZero replacedSum numerals resultCall reducedTo reducerBy runReducer flatMap jobs runAlone endValues answerOf answersOf badBatch badValues longerThanEither batchBy runBatch
+batch-witness = refl

@@ -5,6 +5,7 @@ use mathlib.Core.Path.{_≡_}
 use mathlib.Core.Logic.{_↔_, _⊎_}
 use mathlib.Core.Bool.{true}
 use mathlib.Core.List.{List, [], map, _∷_}
+use Rattle.batch.specs.RunBatch.{batchRows, runBatch}
 use Rattle.counting.specs.CountingCall.{countingRows, expandCall, expandRows, runCounting}
 use Rattle.record.specs.Answers.{checkProgram, checkProgramRows, checkTerm, checkTermRows}
 use Rattle.record.specs.Rows.{First, NoRow, Row, firstRow}
@@ -30,7 +31,7 @@ pub record Numbers (places : List Place) (rows : List Row) (n : ℕ) : Type 0 wh
   pub none : (n ≡ 0) ↔ NoRow rows
   pub first : First rows n
 
--- The demand, of each of the eleven calls and whatever is lent.
+-- The demand, of each of the twelve calls and whatever is lent.
 pub record Demand1 : Type 0 where
   -- every call gives the first row of its own that applies
   pub checkProgramNumber : (buf : List ℕ) (used : ℕ) → Numbers (ofRecord []) (checkProgramRows buf used) ((checkProgram buf used) .number)
@@ -52,6 +53,8 @@ pub record Demand1 : Type 0 where
       → Numbers (ofRecord (table.counting ∷ table.store ∷ [])) (countingRows buf used words store) ((runCounting buf used words store budget) .answer .number)
   pub expandNumber : (buf : List ℕ) (used : ℕ) (words store out : List ℕ)
       → Numbers (ofRecord (table.counting ∷ table.store ∷ table.writingOut ∷ [])) (expandRows buf used words store out) ((expandCall buf used words store out) .number)
+  pub batchNumber : (program : List ℕ) (used : ℕ) (term work budgets values answers : List ℕ)
+      → Numbers (ofRecord (table.batch ∷ table.store ∷ [])) (batchRows program used term work budgets values answers) ((runBatch program used term work budgets values answers) .number)
   -- a refusal gives its number and 0 for everything else, and leaves every slice as it came
   pub checkProgramRefused : (buf : List ℕ) (used : ℕ) → (firstRow (checkProgramRows buf used) ≡ 0 → ⊥)
       → checkProgram buf used ≡ record { number = firstRow (checkProgramRows buf used); k = 0 }
@@ -75,3 +78,6 @@ pub record Demand1 : Type 0 where
       → runCounting buf used words store budget ≡ record { answer = refusal (firstRow (countingRows buf used words store)); words = words; store = store }
   pub expandRefused : (buf : List ℕ) (used : ℕ) (words store out : List ℕ) → (firstRow (expandRows buf used words store out) ≡ 0 → ⊥)
       → expandCall buf used words store out ≡ record { number = firstRow (expandRows buf used words store out); used = 0; written = out }
+  pub batchRefused : (program : List ℕ) (used : ℕ) (term work budgets values answers : List ℕ) → (firstRow (batchRows program used term work budgets values answers) ≡ 0 → ⊥)
+      → runBatch program used term work budgets values answers
+      ≡ record { number = firstRow (batchRows program used term work budgets values answers); used = 0; term = term; work = work; answers = answers }

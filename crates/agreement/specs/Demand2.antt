@@ -8,6 +8,7 @@ use mathlib.Core.Bool.{true}
 use mathlib.Core.List.{List}
 use lib.ListN.{length}
 use Rattle.buffer.specs.LittleEndian.{Bytes}
+use Rattle.batch.specs.BatchMeaning.{BatchMeans}
 use Rattle.counting.specs.CountingMeaning.{CountingMeans}
 use Rattle.record.specs.Answers.{checkProgram, checkTerm}
 use Rattle.record.specs.declared.Header.{Header}
@@ -30,7 +31,7 @@ use Rattle.stepper.specs.StepperRan.{StepperRan}
 use Rattle.term.specs.CallMeaning.{CallsMean}
 use Rattle.weighing.specs.WeighMeaning.{WeighMeans}
 
--- The demand, in five parts: the rules, the rows and the other calls, the counting stepper, the checks, the runs.
+-- The demand, in six parts: the rules, the rows and the other calls, the counting stepper, the batch, the checks, the runs.
 pub record Demand2 : Type 0 where
   -- THE RULES: a step, and a reduction of a closed term, is one of the paper's; over is a value that the rule works out and
   -- that is too large; finished is the empty block, and the tuple
@@ -53,6 +54,8 @@ pub record Demand2 : Type 0 where
   pub weighMeans : WeighMeans
   -- THE COUNTING STEPPER (02 C-14): its rows, its states and steps, its run and the writing out
   pub countingMeans : CountingMeans
+  -- A BATCH (02 C-16): its rows, what it leaves, and each answer that of the run on its store alone
+  pub batchMeans : BatchMeans
   -- CHECK: 0 and k exactly where the bytes are the record of a program, of a term, in a buffer that is not too long
   pub checksProgram : (k : ℕ) (buf : List ℕ) (used : ℕ) → Bytes buf
       → (checkProgram buf used ≡ record { number = 0; k = k }) ↔ ((length buf ≤ 16384) × ((h : Header) × (P : Block) × (h .k ≡ k) × ProgramIn h P buf used))

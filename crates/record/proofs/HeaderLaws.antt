@@ -1,15 +1,16 @@
 -- Laws of the two records: fields, contents, lengths, and that encoding and decoding are inverse, both ways.
-use Prim.Native.Nat.{_+_, _-_, _<_, ℕ, _≤_}
+use Prim.Native.Nat.{_+_, _-_, _<_, suc, ℕ, _≤_}
 use mathlib.Core.Path.{ap, ap₂, refl, sym, _∙_, _≡_}
 use mathlib.Core.Logic.{_↔_}
 use mathlib.Core.Bool.{true}
-use mathlib.Core.List.{_++_, List, [], append-assoc, append-nil}
+use mathlib.Core.List.{_++_, List, [], append-assoc, append-nil, _∷_}
 use mathlib.Core.Option.{some}
 use lib.Dec.{lit<}
-use lib.ListN.{drop, length, length-append, length-drop, take, take-append-drop}
+use lib.ListN.{drop, getD, length, length-append, length-drop, take, take-append-drop}
 use lib.Seq.{drop-at, drop-drop, length-take-le, take-at}
 use native.Mathlib.Omega.{arith}
 use Rattle.buffer.specs.LittleEndian.{Bytes, le, val}
+use Rattle.rules.specs.Sound.{SmallValues}
 use Rattle.rules.specs.Store.{Limit}
 use Rattle.rules.specs.Syntax.{Block, Term}
 use Rattle.rules.proofs.StoreLaws.{upTo-iff, upTo-limit}
@@ -56,6 +57,11 @@ ok-word h f n e = omega (arith, ok-iff h n .0 e)
 
 pub word-ok : (h : Header) (n : ℕ) → n < 4294967296 → okOf h n ≡ true
 word-ok h n q = ok-iff h n .1 (omega arith)
+
+-- what a contract knows of a slice of u32, as values
+pub values-of : (h : Header) (s : List ℕ) → ((i : ℕ) → getD s i 0 < 4294967296) → SmallValues (okOf h) s
+values-of h [] q = tt
+values-of h (x ∷ s) q = (word-ok h x (q 0), values-of h s (λ i. q (suc i)))
 
 -- THE FIELDS OF A RECORD
 

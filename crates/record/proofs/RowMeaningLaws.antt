@@ -35,7 +35,7 @@ off false h = refl
 pub not-iff : {P : Type 0} (b : Bool) → (b ≡ true) ↔ P → (not b ≡ true) ↔ (P → ⊥)
 not-iff b h = ((λ e p. true-false (sym (h .1 p) ∙ not-true b e)), (λ n. ap not (off b (λ e. n (h .0 e)))))
 
-or-iff : {P Q : Type 0} (a b : Bool) → (a ≡ true) ↔ P → (b ≡ true) ↔ Q → ((a || b) ≡ true) ↔ (P ⊎ Q)
+pub or-iff : {P Q : Type 0} (a b : Bool) → (a ≡ true) ↔ P → (b ≡ true) ↔ Q → ((a || b) ≡ true) ↔ (P ⊎ Q)
 or-iff {P} {Q} a b g h = (to a b g h, back a b g h)
   where
     to : (a b : Bool) → (a ≡ true) ↔ P → (b ≡ true) ↔ Q → (a || b) ≡ true → P ⊎ Q
@@ -50,7 +50,7 @@ or-iff {P} {Q} a b g h = (to a b g h, back a b g h)
 pub ltb-iff : (a b : ℕ) → (ltb a b ≡ true) ↔ (a < b)
 ltb-iff a b = (ltb-true a b, lt-ltb a b)
 
-eqb-iff : (a b : ℕ) → (eqb a b ≡ true) ↔ (a ≡ b)
+pub eqb-iff : (a b : ℕ) → (eqb a b ≡ true) ↔ (a ≡ b)
 eqb-iff a b = (eqb-true a b, eq-eqb a b)
 
 pub none-iff : {A : Type 0} {Q : A → Type 0} (o : Option A) → ((a : A) → o ≡ some a → Q a) → ((a : A) → Q a → o ≡ some a) → (isNone o ≡ true) ↔ ((a : A) → Q a → ⊥)

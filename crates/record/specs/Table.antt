@@ -18,6 +18,7 @@ pub data Place : Type 0 where
   readBack : Place
   translator : Place
   writingOut : Place
+  batch : Place
 
 -- A row of the table: the places that it names, and its number.
 pub record Entry : Type 0 where
@@ -28,10 +29,11 @@ pub record Entry : Type 0 where
 abbrev pub entry : List Place → ℕ → Entry
 entry ps n = record { places = ps; number = n }
 
--- THE TABLE. Row 11 is C-11's; 12 and 13 are C-14's, of the counting stepper and of the writing out alone.
+-- THE TABLE. Row 11 is C-11's; 12 and 13 are C-14's, of the counting stepper and of the writing out alone; 14 is C-16's.
 abbrev pub table : List Entry
 table =
     entry (buffers ∷ []) 1
+    ∷ entry (batch ∷ []) 14
     ∷ entry (header ∷ []) 2
     ∷ entry (header ∷ []) 3
     ∷ entry (records ∷ []) 4
@@ -43,7 +45,7 @@ table =
     ∷ entry (reducer ∷ result ∷ []) 7
     ∷ entry (result ∷ []) 8
     ∷ entry (readBack ∷ []) 9
-    ∷ entry (translator ∷ readBack ∷ writingOut ∷ []) 10
+    ∷ entry (translator ∷ readBack ∷ writingOut ∷ batch ∷ []) 10
     ∷ []
 
 -- Some element of the list passes the test.
@@ -70,6 +72,7 @@ placeNumber result = 7
 placeNumber readBack = 8
 placeNumber translator = 9
 placeNumber writingOut = 10
+placeNumber batch = 11
 
 -- The two places are the same.
 abbrev pub samePlace : Place → Place → Bool

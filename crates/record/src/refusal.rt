@@ -4,6 +4,9 @@
 // A buffer that is too long, or a used length above its buffer.
 pub const BAD_BUFFER: u32 = 1;
 
+// A batch of no store, or of more than 64 (02 C-16).
+pub const BAD_BATCH: u32 = 14;
+
 // No whole header, wrong kind, or a length that is not the used length.
 pub const BAD_HEADER: u32 = 2;
 

@@ -18,7 +18,7 @@ pub enum Outcome {
 // The outcomes' numbers in C.
 const REFUSED: u32 = 0;
 
-const FINISHED: u32 = 1;
+pub const FINISHED: u32 = 1;
 
 const OVER: u32 = 2;
 

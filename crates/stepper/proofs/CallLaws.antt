@@ -1,5 +1,5 @@
 -- One law for each way out of the call's code: a row that the checker gives, row 6, and the run of what is accepted.
-use Prim.Native.Nat.{_<_, suc, ℕ, _≤_}
+use Prim.Native.Nat.{_<_, ℕ, _≤_}
 use mathlib.Core.Path.{ap, refl, subst, sym, _∙_, _≡_}
 use mathlib.Core.List.{List, [], _∷_}
 use lib.ListN.{getD, length}
@@ -7,14 +7,13 @@ use native.Mathlib.Omega.{arith}
 use Rattle.buffer.specs.LittleEndian.{Bytes}
 use Rattle.record.specs.Answers.{checkProgram}
 use Rattle.record.specs.declared.Header.{Header}
-use Rattle.record.specs.Header.{contentsAt, headerIn, okOf}
+use Rattle.record.specs.Header.{contentsAt, headerIn}
 use Rattle.record.specs.Rows.{badBuffer, badStore, firstRow, row}
 use Rattle.record.proofs.CheckedRowLaws.{program-accepted, program-accepts, program-refuses}
-use Rattle.record.proofs.HeaderLaws.{word-ok}
+use Rattle.record.proofs.HeaderLaws.{values-of}
 use Rattle.record.proofs.HoldingLaws.{program-as-read, program-k, program-whole}
 use Rattle.record.proofs.RowLaws.{first-applies}
 use Rattle.record.proofs.RowMeaningLaws.{rows-mean}
-use Rattle.rules.specs.Sound.{SmallValues}
 use Rattle.rules.specs.Syntax.{Block}
 use Rattle.run.specs.declared.RunEnd.{RunEnd}
 use Rattle.run.specs.Represents.{asRunAnswer}
@@ -22,11 +21,6 @@ use Rattle.run.specs.RunAnswer.{refusal}
 use Rattle.stepper.specs.RunStepper.{StepperCall, runStepper, stepperRows}
 use Rattle.stepper.specs.Running.{Accepted, Gives, acceptedRun}
 use Rattle.stepper.proofs.RunStepperLaws.{stepper-is, stepper-refused}
-
--- what a contract knows of a slice of u32, as values
-values-of : (hd : Header) (s : List ℕ) → ((i : ℕ) → getD s i 0 < 4294967296) → SmallValues (okOf hd) s
-values-of hd [] h = tt
-values-of hd (x ∷ s) h = (word-ok hd x (h 0), values-of hd s (λ i. h (suc i)))
 
 -- A REFUSAL is by the first row that applies, and nothing has changed
 

@@ -101,7 +101,7 @@ stored-size hd t buf used store f held z =
 -- TRANSLATE, of a program in a buffer
 
 module _ {hd : Header} {P : Block} {src : List ℕ} {used : ℕ} (h : ProgramIn hd P src used) (l : length src ≤ 16384) (out : List ℕ) (lo : length out ≤ 16384) where
-  translated-is : translated src used ≡ encodeTerm hd (translate (hd .k) P)
+  pub translated-is : translated src used ≡ encodeTerm hd (translate (hd .k) P)
   translated-is = ap₂ (λ (x : Header) (b : Block). encodeTerm x (translate (x .k) b)) (program-header h) (program-is h l)
 
   translate-first : firstRow (translateRows src used out) ≡ firstRow (row 10 (tooShort out (translated src used)) ∷ [])

@@ -1,6 +1,7 @@
 -- Tasks: the parts of a let-all, the turns of the writer's loop, and a whole program.
 use Prim.Native.Nat.{_*_, _+_, _-_, _<_, _≤_, ℕ}
 use mathlib.Core.Path.{ap, ap₂, refl, subst, sym, _∙_, _≡_}
+use mathlib.Core.Logic.{inl, inr, _⊎_}
 use mathlib.Core.Bool.{Bool, false, true}
 use mathlib.Core.List.{_++_, List}
 use borrow.Author.Tests.{eq-eqb, ne-eqb}
@@ -24,6 +25,10 @@ use Rattle.translator.proofs.RowViewLaws.{Opened, row-assign, row-four,
 abbrev pub row-index : {l : List ℕ} {p p₁ q q₁ : ℕ} → RowAt l p q → p ≡ p₁ → q ≡ q₁ → RowAt l p₁ q₁
 row-index {l} {p} {p₁} {q} {q₁} h e d =
     record { block = h .block; here = block-index (h .here) e; ends = ap (λ (y : ℕ). y + blockSize (h .block)) (sym e) ∙ h .ends ∙ d }
+
+-- How the code comes to the two rows of a let-all, the longer and the shorter: as the inner one and the rest, or the other way.
+abbrev pub Came : Type 0 → Type 0 → Parts → Task → Task → Type 0
+Came A B p longer shorter = (A × (longer ≡ p .inner) × (shorter ≡ p .rest)) ⊎ (B × (longer ≡ p .rest) × (shorter ≡ p .inner))
 
 letOneSize-least : (b : Bool) → 16 ≤ letOneSize b
 unfolding letOneSize
@@ -132,13 +137,21 @@ module _ {k : ℕ} {src : List ℕ} {whole : Task} (h : TaskIn k src whole) (som
 pub left-start : {k : ℕ} {src : List ℕ} {t : Task} (h : TaskIn k src t) (out : List ℕ) → t .stop ≤ length out → Left k src t (h .row .block) out out t
 left-start h out f = record { task = h; low = omega arith; high = omega arith; kept = refl; fits = f; same = refl }
 
+-- of a row with no command only the tuple is to be written
+module _ {k : ℕ} {src : List ℕ} {t : Task} (h : TaskIn k src t) where
+  pub tuple-alone : t .to ≤ t .from → (out : List ℕ) → put out (t .start) (allBytes k) ≡ put out (t .start) (rowBytes k (h .row .block))
+  tuple-alone e out = ap (put out (t .start)) (sym (ap (rowBytes k) (row-none (h .row) e) ∙ rowBytes-empty k))
+
+  pub tuple-room : t .start + (4 + 8 * k) ≤ t .stop
+  tuple-room = omega (arith, rowSize-least k (h .row .block), h .region)
+
 module _ {k : ℕ} {src : List ℕ} {whole : Task} {b : Block} {out₀ out : List ℕ} {left : Task} (s : Left k src whole b out₀ out left) where
   -- at the end of the row its tuple is left
   pub left-end : left .to ≤ left .from → put out (left .start) (allBytes k) ≡ put out₀ (whole .start) (rowBytes k b)
-  left-end e = ap (put out (left .start)) (sym (ap (rowBytes k) (row-none (s .task .row) e) ∙ rowBytes-empty k)) ∙ s .same
+  left-end e = tuple-alone (s .task) e out ∙ s .same
 
   pub end-room : left .start + (4 + 8 * k) ≤ length out
-  end-room = omega (arith, rowSize-least k (s .task .row .block), s .task .region, s .fits)
+  end-room = omega (arith, tuple-room (s .task), s .fits)
 
   -- a let-one's head is written
   module _ (some : left .from < left .to) (two : u16 src (left .from + 2) ≡ 2) where
@@ -188,7 +201,7 @@ module _ {k : ℕ} {src : List ℕ} {whole : Task} {b : Block} {out₀ out : Lis
         let g₆ = s .fits in
         rw written (put-put out hd m (left .start) (p .inner .start) (omega arith) (omega arith)) ∙ ap (put out (left .start)) (sym (q .bytes))
 
-    pub left-rest : (out₂ : List ℕ) → out₂ ≡ put out₁ (p .inner .start) (rowBytes k (q .inner .row .block)) → length out₂ ≡ length out₁ → Left k src whole b out₀ out₂ (p .rest)
+    left-rest : (out₂ : List ℕ) → out₂ ≡ put out₁ (p .inner .start) (rowBytes k (q .inner .row .block)) → length out₂ ≡ length out₁ → Left k src whole b out₀ out₂ (p .rest)
     left-rest out₂ e m =
         let g₁ = q .inner .region in
         let g₂ = q .rest .region in
@@ -205,7 +218,7 @@ module _ {k : ℕ} {src : List ℕ} {whole : Task} {b : Block} {out₀ out : Lis
               ∙ both ∙ s .same;
         }
 
-    pub left-inner : (out₂ : List ℕ) → out₂ ≡ put out₁ (p .rest .start) (rowBytes k (q .rest .row .block)) → length out₂ ≡ length out₁ → Left k src whole b out₀ out₂ (p .inner)
+    left-inner : (out₂ : List ℕ) → out₂ ≡ put out₁ (p .rest .start) (rowBytes k (q .rest .row .block)) → length out₂ ≡ length out₁ → Left k src whole b out₀ out₂ (p .inner)
     left-inner out₂ e m =
         let g₁ = q .inner .region in
         let g₂ = q .rest .region in
@@ -221,3 +234,40 @@ module _ {k : ℕ} {src : List ℕ} {whole : Task} {b : Block} {out₀ out : Lis
               (omega (arith, length-rowBytes k (q .inner .row .block), q .mid)) (omega (arith, q .stop)))
               ∙ both ∙ s .same;
         }
+
+    -- one of the two is written by a call, and the other is left to the loop
+    module _ {A B : Type 0} {longer shorter : Task} (came : Came A B p longer shorter) where
+      pub turn-task : TaskIn k src shorter
+      turn-task = go came
+        where
+          go : Came A B p longer shorter → TaskIn k src shorter
+          go (inl v) = subst (TaskIn k src) (sym (v .2)) (q .rest)
+          go (inr v) = subst (TaskIn k src) (sym (v .2)) (q .inner)
+
+      -- both are shorter than what they are of, and the call's stays within it
+      pub turn-less : (shorter .to - shorter .from < left .to - left .from) × (longer .to - longer .from < left .to - left .from) × (shorter .stop ≤ left .stop)
+      turn-less = go came
+        where
+          g₁ : p .inner .from ≤ p .inner .to
+          g₁ = omega (arith, q .inner .row .ends)
+
+          g₂ : p .rest .from ≤ p .rest .to
+          g₂ = omega (arith, q .rest .row .ends)
+
+          go : Came A B p longer shorter → (shorter .to - shorter .from < left .to - left .from) × (longer .to - longer .from < left .to - left .from) × (shorter .stop ≤ left .stop)
+          go (inl v) = rw (v .1, v .2) (omega (arith, q .past, q .next, q .end, g₁, g₂), omega (arith, q .past, q .next, q .end, g₁, g₂), omega (arith, q .stop))
+          go (inr v) = rw (v .1, v .2) (omega (arith, q .past, q .next, q .end, g₁, g₂), omega (arith, q .past, q .next, q .end, g₁, g₂), q .opens .fits)
+
+      pub turn-left : (out₂ : List ℕ) → ((h : TaskIn k src shorter) → out₂ ≡ put out₁ (shorter .start) (rowBytes k (h .row .block))) → length out₂ ≡ length out₁
+          → Left k src whole b out₀ out₂ longer
+      turn-left out₂ e m = go came
+        where
+          go : Came A B p longer shorter → Left k src whole b out₀ out₂ longer
+          go (inl v) =
+              let f : (h : TaskIn k src (p .rest)) → out₂ ≡ put out₁ (p .rest .start) (rowBytes k (h .row .block)) =
+              subst (λ (t : Task). (h : TaskIn k src t) → out₂ ≡ put out₁ (t .start) (rowBytes k (h .row .block))) (v .2) e in
+              subst (Left k src whole b out₀ out₂) (sym (v .1)) (left-inner out₂ (f (q .rest)) m)
+          go (inr v) =
+              let f : (h : TaskIn k src (p .inner)) → out₂ ≡ put out₁ (p .inner .start) (rowBytes k (h .row .block)) =
+              subst (λ (t : Task). (h : TaskIn k src t) → out₂ ≡ put out₁ (t .start) (rowBytes k (h .row .block))) (v .2) e in
+              subst (Left k src whole b out₀ out₂) (sym (v .1)) (left-rest out₂ (f (q .inner)) m)

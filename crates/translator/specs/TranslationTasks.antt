@@ -12,6 +12,10 @@ use Rattle.translator.specs.TranslationHeads.{letAllHead, letAllSize, op
 use Rattle.translator.specs.declared.Parts.{Parts}
 use Rattle.translator.specs.declared.Task.{Task}
 
+-- A task from its four numbers.
+abbrev pub task : ℕ → ℕ → ℕ → ℕ → Task
+task from to start stop = record { from = from; to = to; start = start; stop = stop }
+
 -- The commands of a task are those of a block, and its place in the output is as long as their translation.
 pub record TaskIn (k : ℕ) (src : List ℕ) (t : Task) : Type 0 where
   pub row : RowAt src (t .from) (t .to)

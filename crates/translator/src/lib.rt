@@ -13,7 +13,7 @@ ghost use Rattle.record.specs.Header.{encodeTerm};
 ghost use Rattle.record.specs.Holding.{ProgramIn};
 ghost use Rattle.translator.specs.RowTranslation.{RowAt, allBytes, rowBytes, rowSize};
 ghost use Rattle.translator.specs.TranslationHeads.{leadOf, letAllHead, letOneHead, letOneSize};
-ghost use Rattle.translator.specs.TranslationTasks.{Opens, PartsOf, TaskIn, cutAt, pastHeads};
+ghost use Rattle.translator.specs.TranslationTasks.{Opens, PartsOf, TaskIn, cutAt, pastHeads, task};
 use edit::put_head;
 use edit::put_header;
 use edit::put_lead;
@@ -208,12 +208,18 @@ fn write_let_all(src: &[u8], whole: Task, inner: Task, k: u32, out: &mut [u8])
 }
 
 // Of a let-all's two rows the shorter is written by a call and the longer by the loop, so the calls nest no deeper than the
-// logarithm of the length.
-fn write_row(src: &[u8], task: Task, k: u32, out: &mut [u8])
-    requires { ⌜ (TaskIn k (now src) task) × (task .stop ≤ length (now out)) ⌝ }
-    ensures { λ _. ⌜ ((h : TaskIn k (now (src .entry)) task) → now (out .exit) ≡ put (now (out .entry)) (task .start) (rowBytes k (h .row .block))) ⌝ }
+// logarithm of the length. For the stack's sake a task is handed on in numbers, the call stands at one place, and a row with no
+// command, of which only the tuple is left to write, takes none.
+fn write_row(src: &[u8], from: usize, to: usize, start: usize, stop: usize, k: u32, out: &mut [u8])
+    requires { ⌜ (TaskIn k (now src) (task from to start stop)) × (stop ≤ length (now out)) ⌝ }
+    ensures { λ _. ⌜ ((h : TaskIn k (now (src .entry)) (task from to start stop)) → now (out .exit) ≡ put (now (out .entry)) start (rowBytes k (h .row .block))) ⌝ }
 {
-    let mut left = task;
+    let mut left = Task {
+        from,
+        to,
+        start,
+        stop,
+    };
     while left.from < left.to {
         if buffer::get_u16(src, left.from + 2) == ASSIGNMENT {
             left.start = write_let_one(src, left.from, out, left.start, left.stop - left.start);
@@ -223,12 +229,24 @@ fn write_row(src: &[u8], task: Task, k: u32, out: &mut [u8])
             let inner = parts.inner;
             let rest = parts.rest;
             write_let_all(src, left, inner, k, out);
-            if inner.to - inner.from <= rest.to - rest.from {
-                write_row(src, inner, k, out);
-                left = rest;
-            } else {
-                write_row(src, rest, k, out);
+            let mut shorter = inner;
+            left = rest;
+            if rest.to - rest.from < inner.to - inner.from {
+                shorter = rest;
                 left = inner;
+            }
+            if shorter.from < shorter.to {
+                write_row(
+                    src,
+                    shorter.from,
+                    shorter.to,
+                    shorter.start,
+                    shorter.stop,
+                    k,
+                    out,
+                );
+            } else {
+                write_tuple(out, shorter.start, k);
             }
         }
     }
@@ -242,13 +260,7 @@ pub fn write_translation(src: &[u8], used: usize, h: Header, out: &mut [u8])
     let total = translation_size(src, used, h);
     let start = h.contents_at();
     put_header(out, Sort::Term, h, total);
-    let whole = Task {
-        from: start + 4,
-        to: used,
-        start: start,
-        stop: total,
-    };
-    write_row(src, whole, h.k, out);
+    write_row(src, start + 4, used, start, total, h.k, out);
     let room = out.len();
     buffer::zero(out, total, room - total);
 }

@@ -2,6 +2,8 @@
 // function and its answer back by value. A lent slice is a pointer and a length.
 ghost use mathlib.Core.Path.{_≡_};
 ghost use Rattle.record.specs.Answers.{checkProgram, checkTerm};
+ghost use Rattle.batch.specs.Represents.{asBatch};
+ghost use Rattle.batch.specs.RunBatch.{runBatch};
 ghost use Rattle.checker.specs.Answer.{asChecked};
 ghost use Rattle.counter.specs.Represents as counter;
 ghost use Rattle.counting.specs.CountingCall.{expandCall, runCounting};
@@ -113,4 +115,19 @@ pub extern "C" fn vistrokk_expand(
     ensures { λ r. ⌜ asWrote r (now (out .exit)) ≡ expandCall (now (program .entry)) used (now (state .entry)) (now (store .entry)) (now (out .entry)) ⌝ }
 {
     counter::expand::expand(program, used, state, store, out)
+}
+
+#[no_mangle]
+pub extern "C" fn vistrokk_run_batch(
+    program: &[u8],
+    used: usize,
+    term: &mut [u8],
+    work: &mut [u8],
+    budgets: &[u32],
+    values: &[u32],
+    answers: &mut [u32],
+) -> term::Written
+    ensures { λ r. ⌜ asBatch r (now (term .exit)) (now (work .exit)) (now (answers .exit)) ≡ runBatch (now (program .entry)) used (now (term .entry)) (now (work .entry)) (now (budgets .entry)) (now (values .entry)) (now (answers .entry)) ⌝ }
+{
+    batch::run_batch(program, used, term, work, budgets, values, answers)
 }

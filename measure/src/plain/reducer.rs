@@ -5,8 +5,9 @@ use super::substitute::{closed, fill, Values};
 use super::{half, put_half, put_head, put_leaf, put_word, run, word, Ahead, State};
 use other::calls::Reduced;
 use other::check::Refusal;
+use other::run::Outcome;
 
-const TERM: usize = 8;
+pub(super) const TERM: usize = 8;
 
 pub fn run_reducer(buf: &mut [u8], used: usize, budget: u32) -> Reduced {
     let checked = super::check::check_term(buf, used);
@@ -16,14 +17,22 @@ pub fn run_reducer(buf: &mut [u8], used: usize, budget: u32) -> Reduced {
     if !closed(buf, TERM) {
         return Reduced::refused(Refusal::FreeVariable);
     }
+    let mut state = State { buf, used };
+    let (end, replaced) = reduce(&mut state, budget);
+    let ran = state.end(end, budget);
+    Reduced { ran, replaced }
+}
+
+/// The run of a closed term, and how many variables it replaced.
+pub(super) fn reduce(state: &mut State, budget: u32) -> ((Outcome, u32), u64) {
     let mut replaced = 0;
-    let ran = run(
-        State { buf, used },
+    let end = run(
+        state,
         budget,
         |state| ahead(state.buf),
         |state, at, narrow, wide| replaced += u64::from(perform(state, at, narrow, wide)),
     );
-    Reduced { ran, replaced }
+    (end, replaced)
 }
 
 fn ahead(buf: &[u8]) -> Ahead {

@@ -17,12 +17,14 @@ pub fn run_stepper(buf: &mut [u8], used: usize, store: &mut [u32], budget: u32) 
     }
     // Both closures read the store and one writes it, so it is handed about in a cell.
     let store = std::cell::RefCell::new(store);
-    run(
-        State { buf, used },
+    let mut state = State { buf, used };
+    let end = run(
+        &mut state,
         budget,
         |state| ahead(state.buf, &store.borrow()),
         |state, at, narrow, wide| perform(state, at, narrow, wide, &mut store.borrow_mut()),
-    )
+    );
+    state.end(end, budget)
 }
 
 fn value(store: &[u32], variable: u32) -> u32 {

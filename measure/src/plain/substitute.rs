@@ -15,17 +15,21 @@ pub fn substitute(buf: &mut [u8], used: usize, store: &[u32]) -> Substituted {
     if store.len() != checked.k as usize {
         return Substituted::refused(Refusal::BadStore);
     }
-    let mut values = [None; 17];
-    for (variable, value) in store.iter().enumerate() {
-        values[variable + 1] = Some(*value);
-    }
-    let replaced = fill(buf, 8, values);
+    let replaced = fill(buf, 8, values_of(store));
     buf[used..].fill(0);
     Substituted {
         number: 0,
         used: used as u32,
         replaced,
     }
+}
+
+pub fn values_of(store: &[u32]) -> Values {
+    let mut values = [None; 17];
+    for (variable, value) in store.iter().enumerate() {
+        values[variable + 1] = Some(*value);
+    }
+    values
 }
 
 /// Puts the values for the variables that are free in the term at this place, and counts them.

@@ -12,18 +12,28 @@ pub fn translate(src: &[u8], used: usize, out: &mut [u8]) -> Written {
     if checked.number != 0 {
         return Written::refused(checked.number);
     }
-    let size = 8 + row_size(&src[12..used], checked.k);
+    let size = size(&src[..used], checked.k);
     if size > out.len() {
         return Written::refused(Refusal::OutputTooShort);
     }
-    put_head(out, 0, size, 40);
-    put_word(out, 4, checked.k);
-    row(&src[12..used], checked.k, out, 8);
-    out[size..].fill(0);
+    write(&src[..used], checked.k, size, out);
     Written {
         number: 0,
         used: size as u32,
     }
+}
+
+/// How long the term of a program is that was checked.
+pub fn size(program: &[u8], k: u32) -> usize {
+    8 + row_size(&program[12..], k)
+}
+
+/// The term of that size, and zeros behind it.
+pub fn write(program: &[u8], k: u32, size: usize, out: &mut [u8]) {
+    put_head(out, 0, size, 40);
+    put_word(out, 4, k);
+    row(&program[12..], k, out, 8);
+    out[size..].fill(0);
 }
 
 fn row_size(bytes: &[u8], k: u32) -> usize {

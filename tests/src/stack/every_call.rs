@@ -1,4 +1,4 @@
-//! The eleven calls, as the stack is measured of them.
+//! The twelve calls, as the stack is measured of them.
 
 use super::Call;
 
@@ -10,6 +10,7 @@ pub fn every_call() -> Vec<Call> {
     calls.extend(stepper::calls());
     calls.extend(counting::calls());
     calls.extend(reducer::calls());
+    calls.extend(batch::calls());
     calls
 }
 
@@ -45,7 +46,7 @@ mod terms {
     pub fn calls() -> [Call; 4] {
         let translate = Call {
             name: "translate",
-            limit: 3_072,
+            limit: 2_048,
             records: program_records,
             library: |s| library::translate(&s.buffer, s.used, &mut s.out).number,
             other: |s| calls::translate(&s.buffer, s.used, &mut s.out).number,
@@ -171,6 +172,23 @@ mod reducer {
                     .number
             },
             other: |s| calls::run_reducer(&mut s.buffer, s.used, BUDGET).ran.number,
+        }]
+    }
+}
+
+mod batch {
+    use super::Call;
+    use crate::extremes::program_records;
+    use crate::{calls, library};
+
+    /// Its own frame, and the 13 words that it is handed, lie beneath the translator's.
+    pub fn calls() -> [Call; 1] {
+        [Call {
+            name: "run_batch",
+            limit: 2_240,
+            records: program_records,
+            library: |s| s.batch.run(library::run_batch).number,
+            other: |s| s.batch.run(calls::run_batch).number,
         }]
     }
 }

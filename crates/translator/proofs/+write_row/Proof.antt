@@ -15,10 +15,10 @@ use Rattle.translator.proofs.+write_row.Tie.{close}
 use native.Mathlib.Omega.{arith}
 use mathlib.Core.Path.{refl, sym, _∙_}
 use Rattle.translator.specs.TranslationTasks.{Left, TaskIn}
-use Rattle.translator.proofs.TaskLaws.{end-room, head-room, left-end, left-inner, left-one, left-rest, left-start, one-room}
+use Rattle.translator.proofs.TaskLaws.{end-room, head-room, left-end, left-one, left-start, one-room, turn-left, turn-less, turn-task, tuple-alone, tuple-room}
 
 abbrev μ-write-row : Measures 2 write-row-kinds.ps ℕ
-μ-write-row κs a = a .1 .0 .to - a .1 .0 .from
+μ-write-row κs a = a .1 .1 .0 - a .1 .0
 
 abbrev write-row-at : ℕ → In 2 write-row-kinds.ps
 write-row-at t = and 2 write-row-kinds.ps (is 2 write-row-kinds.ps μ-write-row t) write-row.Pre
@@ -28,10 +28,10 @@ write-row-below t =
     and 2 write-row-kinds.ps (falls 2 write-row-kinds.ps _<_ μ-write-row t) write-row.Pre
 
 abbrev write-row-Inv-loop : write-row-lts.InvT-loop
-write-row-Inv-loop src k out₀ left₀ out left = (h : TaskIn k src left₀) → Left k src left₀ (h .row .block) out₀ out left
+write-row-Inv-loop src from to start stop k out₀ left₀ out left = (h : TaskIn k src left₀) → Left k src left₀ (h .row .block) out₀ out left
 
 abbrev write-row-μ-loop : write-row-lts.MeasureT-loop
-write-row-μ-loop src k out₀ left₀ out left = left .to - left .from
+write-row-μ-loop src from to start stop k out₀ left₀ out left = left .to - left .from
 
 abbrev write-row-calls : ℕ → write-row-lts.Claims
 write-row-calls t = (
@@ -101,69 +101,71 @@ write-row-write-let-all-requires t c κs =
 write-row-sub-if3 : (t : ℕ) → write-row-lts.Need-sub-if3 (write-row-calls t) (write-row-at t) write-row.Post write-row-Inv-loop write-row-μ-loop
 write-row-sub-if3 t c =
     let s = c .before .before .before .before .before .before .before .before .before .before .before .before .before .loop .inv (c .before .before .before .before .before .before .before .before .before .before .before .before .before .before .before .before .pre .1 .0) in
-    omega (arith, c .before .before .before .before .before .before .before .rows-of .ensures (s .task) .inner .row .ends)
+    omega (arith, c .before .before .before .before .before .before .before .rows-of .ensures (s .task) .rest .row .ends)
 
 write-row-sub-if3-2 : (t : ℕ) → write-row-lts.Need-sub-if3-2 (write-row-calls t) (write-row-at t) write-row.Post write-row-Inv-loop write-row-μ-loop
 write-row-sub-if3-2 t c =
     let s = c .before .before .before .before .before .before .before .before .before .before .before .before .before .before .loop .inv (c .before .before .before .before .before .before .before .before .before .before .before .before .before .before .before .before .before .pre .1 .0) in
-    omega (arith, c .before .before .before .before .before .before .before .before .rows-of .ensures (s .task) .rest .row .ends)
+    omega (arith, c .before .before .before .before .before .before .before .before .rows-of .ensures (s .task) .inner .row .ends)
 
 write-row-write-row-requires : (t : ℕ) → write-row-lts.Need-write-row-requires (write-row-calls t) (write-row-at t) write-row.Post write-row-Inv-loop write-row-μ-loop
 write-row-write-row-requires t c κs =
-    let t₀ = c .before .before .before .before .before .before .before .before .before .before .before .before .before .before .before .before .before .before .before .pre .0 in
-    let s = c .before .before .before .before .before .before .before .before .before .before .before .before .before .before .before .before .loop .inv (c .before .before .before .before .before .before .before .before .before .before .before .before .before .before .before .before .before .before .before .pre .1 .0) in
-    let q = c .before .before .before .before .before .before .before .before .before .before .rows-of .ensures (s .task) in
+    let t₀ = c .before .before .before .before .before .before .before .before .before .before .before .before .before .before .before .before .before .before .before .before .before .pre .0 in
+    let s = c .before .before .before .before .before .before .before .before .before .before .before .before .before .before .before .before .before .before .loop .inv (c .before .before .before .before .before .before .before .before .before .before .before .before .before .before .before .before .before .before .before .before .before .pre .1 .0) in
+    let q = c .before .before .before .before .before .before .before .before .before .before .before .before .rows-of .ensures (s .task) in
     let low = s .low in
     let high = s .high in
-    (omega (arith, q .past, q .next, q .end, q .inner .row .ends, q .rest .row .ends), (q .inner, omega (arith, q .opens .fits, s .fits, c .before .before .before .before .before .before .write-let-all .kept .1 .1 .1 .1 .0)))
+    let m = turn-less s q _ (c .before .before .before .before .before .before .before .before .write-let-all .ensures) (c .before .before .before .before .before .before .before .before .write-let-all .kept .1 .1 .1 .1 .0) (c .before .before .before .if3 .came) in
+    let stop = m .2 in
+    (omega (arith, m .0), (turn-task s q _ (c .before .before .before .before .before .before .before .before .write-let-all .ensures) (c .before .before .before .before .before .before .before .before .write-let-all .kept .1 .1 .1 .1 .0) (c .before .before .before .if3 .came), omega (arith, stop, s .fits, c .before .before .before .before .before .before .before .before .write-let-all .kept .1 .1 .1 .1 .0)))
 
 write-row-loop-less-2 : (t : ℕ) → write-row-lts.Need-loop-less-2 (write-row-calls t) (write-row-at t) write-row.Post write-row-Inv-loop write-row-μ-loop
 write-row-loop-less-2 t c =
-    let s = c .before .before .before .before .before .before .before .before .before .before .before .before .before .before .before .before .before .before .before .loop .inv (c .before .before .before .before .before .before .before .before .before .before .before .before .before .before .before .before .before .before .before .before .before .before .pre .1 .0) in
-    let q = c .before .before .before .before .before .before .before .before .before .before .before .before .before .rows-of .ensures (s .task) in
-    omega (arith, q .past, q .next, q .end, q .inner .row .ends, q .rest .row .ends)
+    let s = c .before .before .before .before .before .before .before .before .before .before .before .before .before .before .before .before .before .before .before .before .before .loop .inv (c .before .before .before .before .before .before .before .before .before .before .before .before .before .before .before .before .before .before .before .before .before .before .before .before .pre .1 .0) in
+    let q = c .before .before .before .before .before .before .before .before .before .before .before .before .before .before .before .rows-of .ensures (s .task) in
+    turn-less s q _ (c .before .before .before .before .before .before .before .before .before .before .before .write-let-all .ensures) (c .before .before .before .before .before .before .before .before .before .before .before .write-let-all .kept .1 .1 .1 .1 .0) (c .before .before .before .before .before .before .if3 .came) .1
 
 write-row-loop-again-2 : (t : ℕ) → write-row-lts.Need-loop-again-2 (write-row-calls t) (write-row-at t) write-row.Post write-row-Inv-loop write-row-μ-loop
 write-row-loop-again-2 t c =
     λ h.
-    let s = c .before .before .before .before .before .before .before .before .before .before .before .before .before .before .before .before .before .before .before .loop .inv h in
-    let q = c .before .before .before .before .before .before .before .before .before .before .before .before .before .rows-of .ensures (s .task) in
-    left-rest s q _ (c .before .before .before .before .before .before .before .before .before .write-let-all .ensures) (c .before .before .before .before .before .before .before .before .before .write-let-all .kept .1 .1 .1 .1 .0) _ (c .before .before .write-row .ensures (q .inner)) (c .before .before .write-row .kept .1 .1 .1 .0)
+    let s = c .before .before .before .before .before .before .before .before .before .before .before .before .before .before .before .before .before .before .before .before .before .loop .inv h in
+    let q = c .before .before .before .before .before .before .before .before .before .before .before .before .before .before .before .rows-of .ensures (s .task) in
+    turn-left s q _ (c .before .before .before .before .before .before .before .before .before .before .before .write-let-all .ensures) (c .before .before .before .before .before .before .before .before .before .before .before .write-let-all .kept .1 .1 .1 .1 .0) (c .before .before .before .before .before .before .if3 .came) _ (c .before .before .write-row .ensures) (c .before .before .write-row .kept .1 .1 .1 .1 .1 .1 .0)
 
-write-row-write-row-requires-2 : (t : ℕ) → write-row-lts.Need-write-row-requires-2 (write-row-calls t) (write-row-at t) write-row.Post write-row-Inv-loop write-row-μ-loop
-write-row-write-row-requires-2 t c κs =
-    let t₀ = c .before .before .before .before .before .before .before .before .before .before .before .before .before .before .before .before .before .before .before .pre .0 in
-    let s = c .before .before .before .before .before .before .before .before .before .before .before .before .before .before .before .before .loop .inv (c .before .before .before .before .before .before .before .before .before .before .before .before .before .before .before .before .before .before .before .pre .1 .0) in
-    let q = c .before .before .before .before .before .before .before .before .before .before .rows-of .ensures (s .task) in
-    let low = s .low in
-    let high = s .high in
-    (omega (arith, q .past, q .next, q .end, q .inner .row .ends, q .rest .row .ends), (q .rest, omega (arith, q .stop, s .fits, c .before .before .before .before .before .before .write-let-all .kept .1 .1 .1 .1 .0)))
+write-row-write-tuple-requires : (t : ℕ) → write-row-lts.Need-write-tuple-requires (write-row-calls t) (write-row-at t) write-row.Post write-row-Inv-loop write-row-μ-loop
+write-row-write-tuple-requires t c κs =
+    let s = c .before .before .before .before .before .before .before .before .before .before .before .before .before .before .before .before .before .before .loop .inv (c .before .before .before .before .before .before .before .before .before .before .before .before .before .before .before .before .before .before .before .before .before .pre .1 .0) in
+    let q = c .before .before .before .before .before .before .before .before .before .before .before .before .rows-of .ensures (s .task) in
+    let m = turn-less s q _ (c .before .before .before .before .before .before .before .before .write-let-all .ensures) (c .before .before .before .before .before .before .before .before .write-let-all .kept .1 .1 .1 .1 .0) (c .before .before .before .if3 .came) in
+    let task = turn-task s q _ (c .before .before .before .before .before .before .before .before .write-let-all .ensures) (c .before .before .before .before .before .before .before .before .write-let-all .kept .1 .1 .1 .1 .0) (c .before .before .before .if3 .came) in
+    let stop = m .2 in
+    (omega (arith, tuple-room task, stop, s .fits, c .before .before .before .before .before .before .before .before .write-let-all .kept .1 .1 .1 .1 .0), s .task .few)
 
 write-row-loop-less-3 : (t : ℕ) → write-row-lts.Need-loop-less-3 (write-row-calls t) (write-row-at t) write-row.Post write-row-Inv-loop write-row-μ-loop
 write-row-loop-less-3 t c =
-    let s = c .before .before .before .before .before .before .before .before .before .before .before .before .before .before .before .before .before .before .before .loop .inv (c .before .before .before .before .before .before .before .before .before .before .before .before .before .before .before .before .before .before .before .before .before .before .pre .1 .0) in
-    let q = c .before .before .before .before .before .before .before .before .before .before .before .before .before .rows-of .ensures (s .task) in
-    omega (arith, q .past, q .next, q .end, q .inner .row .ends, q .rest .row .ends)
+    let s = c .before .before .before .before .before .before .before .before .before .before .before .before .before .before .before .before .before .before .before .before .before .loop .inv (c .before .before .before .before .before .before .before .before .before .before .before .before .before .before .before .before .before .before .before .before .before .before .before .before .pre .1 .0) in
+    let q = c .before .before .before .before .before .before .before .before .before .before .before .before .before .before .before .rows-of .ensures (s .task) in
+    turn-less s q _ (c .before .before .before .before .before .before .before .before .before .before .before .write-let-all .ensures) (c .before .before .before .before .before .before .before .before .before .before .before .write-let-all .kept .1 .1 .1 .1 .0) (c .before .before .before .before .before .before .if3 .came) .1
 
 write-row-loop-again-3 : (t : ℕ) → write-row-lts.Need-loop-again-3 (write-row-calls t) (write-row-at t) write-row.Post write-row-Inv-loop write-row-μ-loop
 write-row-loop-again-3 t c =
     λ h.
-    let s = c .before .before .before .before .before .before .before .before .before .before .before .before .before .before .before .before .before .before .before .loop .inv h in
-    let q = c .before .before .before .before .before .before .before .before .before .before .before .before .before .rows-of .ensures (s .task) in
-    left-inner s q _ (c .before .before .before .before .before .before .before .before .before .write-let-all .ensures) (c .before .before .before .before .before .before .before .before .before .write-let-all .kept .1 .1 .1 .1 .0) _ (c .before .before .write-row2 .ensures (q .rest)) (c .before .before .write-row2 .kept .1 .1 .1 .0)
+    let s = c .before .before .before .before .before .before .before .before .before .before .before .before .before .before .before .before .before .before .before .before .before .loop .inv h in
+    let q = c .before .before .before .before .before .before .before .before .before .before .before .before .before .before .before .rows-of .ensures (s .task) in
+    turn-left s q _ (c .before .before .before .before .before .before .before .before .before .before .before .write-let-all .ensures) (c .before .before .before .before .before .before .before .before .before .before .before .write-let-all .kept .1 .1 .1 .1 .0) (c .before .before .before .before .before .before .if3 .came) _ (λ g. c .before .before .write-tuple .ensures ∙ tuple-alone g (c .before .before .before .before .if4 .left) _) (c .before .before .write-tuple .kept .0)
 
-write-row-write-tuple-requires : (t : ℕ) → write-row-lts.Need-write-tuple-requires (write-row-calls t) (write-row-at t) write-row.Post write-row-Inv-loop write-row-μ-loop
-write-row-write-tuple-requires t c κs =
+write-row-write-tuple-requires-2 : (t : ℕ) → write-row-lts.Need-write-tuple-requires-2 (write-row-calls t) (write-row-at t) write-row.Post write-row-Inv-loop write-row-μ-loop
+write-row-write-tuple-requires-2 t c κs =
     let s = c .before .before .before .loop .inv (c .before .before .before .before .before .before .pre .1 .0) in
     (end-room s, s .task .few)
 
 write-row-same-length : (t : ℕ) → write-row-lts.Need-same-length (write-row-calls t) (write-row-at t) write-row.Post write-row-Inv-loop write-row-μ-loop
 write-row-same-length t c =
-    c .before .before .write-tuple .kept .0 ∙ c .before .before .before .before .before .before .loop .inv (c .before .before .before .before .before .before .before .before .before .pre .1 .0) .kept
+    c .before .before .write-tuple2 .kept .0 ∙ c .before .before .before .before .before .before .loop .inv (c .before .before .before .before .before .before .before .before .before .pre .1 .0) .kept
 
 write-row-returns : (t : ℕ) → write-row-lts.Need-returns (write-row-calls t) (write-row-at t) write-row.Post write-row-Inv-loop write-row-μ-loop
 write-row-returns t c =
-    λ h. c .before .before .write-tuple .ensures ∙ left-end (c .before .before .before .before .before .before .loop .inv h) (c .before .before .before .before .if1 .left)
+    λ h. c .before .before .write-tuple2 .ensures ∙ left-end (c .before .before .before .before .before .before .loop .inv h) (c .before .before .before .before .if1 .left)
 
 pub +write-row-spec : {M : Type 1} → statement M
 +write-row-spec = close μ-write-row λ t. write-row-lts.spec (write-row-calls t)
@@ -186,9 +188,9 @@ pub +write-row-spec : {M : Type 1} → statement M
     (write-row-write-row-requires t)
     (write-row-loop-less-2 t)
     (write-row-loop-again-2 t)
-    (write-row-write-row-requires-2 t)
+    (write-row-write-tuple-requires t)
     (write-row-loop-less-3 t)
     (write-row-loop-again-3 t)
-    (write-row-write-tuple-requires t)
+    (write-row-write-tuple-requires-2 t)
     (write-row-same-length t)
     (write-row-returns t)

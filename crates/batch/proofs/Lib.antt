@@ -1,0 +1,4 @@
+pub mod JobLaws
+pub mod AnswersLaws
+pub mod RunBatchLaws
+pub mod BatchMeaningLaws

@@ -1,0 +1,4 @@
+pub mod RunBatch
+pub mod Running
+pub mod BatchMeaning
+pub mod Represents
