@@ -12,7 +12,7 @@
 
 #include "vistrokk.h"
 
-/* k = 4, {x3 := x1; for x4 := 1 to x2 {x3 := x3 + 1}}; compare.c says which bytes are what. */
+/* k = 4, {x3 := x1; for x4 := 1 to x2 {x3 := x3 + 1}}, of edition 1; compare.c says which bytes are what. */
 #define K 4
 static const uint8_t add[64] = {
     64, 0, 7, 0, 4, 0, 0, 0, 56, 0, 1, 0, 16, 0, 2, 0, 3, 0, 0, 0, 8, 0, 17, 0, 1, 0, 0, 0, 36, 0, 3, 0,
@@ -42,7 +42,9 @@ static const char *const refusals[] = {
     [VISTROKK_BAD_K] = "bad k",
     [VISTROKK_MALFORMED] = "malformed",
     [VISTROKK_BAD_VARIABLE] = "bad variable",
+    [VISTROKK_LITERAL_ABOVE_CEILING] = "literal above ceiling",
     [VISTROKK_BAD_STORE] = "bad store",
+    [VISTROKK_VALUE_ABOVE_CEILING] = "value above ceiling",
     [VISTROKK_OUTPUT_TOO_SHORT] = "output too short",
 };
 

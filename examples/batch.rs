@@ -22,13 +22,15 @@ fn refusal(number: u32) -> &'static str {
         3 => "bad k",
         4 => "malformed",
         5 => "bad variable",
+        15 => "literal above ceiling",
         6 => "bad store",
+        16 => "value above ceiling",
         10 => "output too short",
         _ => "unknown",
     }
 }
 
-/// k = 4, {x3 := x1; for x4 := 1 to x2 {x3 := x3 + 1}}; compare.c says which bytes are what.
+/// k = 4, {x3 := x1; for x4 := 1 to x2 {x3 := x3 + 1}}, of edition 1; compare.c says which bytes are what.
 const K: usize = 4;
 const ADD: [u8; 64] = [
     64, 0, 7, 0, 4, 0, 0, 0, 56, 0, 1, 0, 16, 0, 2, 0, 3, 0, 0, 0, 8, 0, 17, 0, 1, 0, 0, 0, 36, 0,

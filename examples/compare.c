@@ -7,8 +7,9 @@
  *    cc -I include examples/compare.c target/staticlib/libvistrokk.a -o compare
  *    ./compare [FILE [BUDGET [STEPPER_ROOM [REDUCER_ROOM]]]]
  *
- * FILE: a program's record and its k values, as in inputs/ (docs/FORMAT.md); without one, ADD on 7, 3, 0, 0, the 7 weighed. BUDGET: the
- * most steps of each engine, 1,000,000 if not given. The rooms: the bytes of each engine's buffer, 16,384 if not given.
+ * FILE: a program's record, of either edition, and its k values, as in inputs/ (docs/FORMAT.md); without one, ADD under a ceiling of 10 on
+ * 7, 3, 0, 0, the 7 weighed. BUDGET: the most steps of each engine, 1,000,000 if not given. The rooms: the bytes of each engine's
+ * buffer, 16,384 if not given.
  * Exit status: 0 when both have stopped and agree, 1 with a refusal or where they differ, 2 if it cannot read what it was given.
  */
 #include <inttypes.h>
@@ -23,9 +24,10 @@
 #define REDUCER_SLICE 2
 #define COUNTING_SLICE 5
 
-/* k = 4, {x3 := x1; for x4 := 1 to x2 {x3 := x3 + 1}}. */
-static const uint8_t add[64] = {
-    64, 0, 7,  0, 4, 0, 0, 0,                            /* program: 64 bytes, kind 7, k = 4 */
+/* k = 4, {x3 := x1; for x4 := 1 to x2 {x3 := x3 + 1}}, with a ceiling of 10: every engine stops, over, before a larger value. In edition 1
+ * the header is 64, 0, 7, 0, 4, 0, 0, 0, and the ceiling the largest value. */
+static const uint8_t add[68] = {
+    68, 0, 9,  0, 4, 0, 0, 0, 10, 0, 0, 0,               /* program of edition 2: 68 bytes, kind 9, k = 4, the ceiling */
     56, 0, 1,  0,                                        /* block */
     16, 0, 2,  0, 3, 0, 0, 0, 8, 0, 17, 0, 1, 0, 0, 0,   /* x3 := x1 */
     36, 0, 3,  0, 4, 0, 0, 0, 8, 0, 17, 0, 2, 0, 0, 0,   /* for x4 := 1 to x2 */
@@ -41,9 +43,11 @@ static const char *const refusals[] = {
     [VISTROKK_MALFORMED] = "malformed",
     [VISTROKK_BAD_VARIABLE] = "bad variable",
     [VISTROKK_TOO_DEEP] = "too deep",
+    [VISTROKK_LITERAL_ABOVE_CEILING] = "literal above ceiling",
     [VISTROKK_BAD_STORE] = "bad store",
     [VISTROKK_BAD_RULE] = "bad rule",
     [VISTROKK_BAD_STATE] = "bad state",
+    [VISTROKK_VALUE_ABOVE_CEILING] = "value above ceiling",
     [VISTROKK_FREE_VARIABLE] = "free variable",
     [VISTROKK_UNFINISHED] = "unfinished",
     [VISTROKK_NO_PROGRAM] = "no program",
@@ -102,7 +106,8 @@ static uint32_t word(const uint8_t *at)
 }
 
 /* ADD, and a store whose first value comes from the scales: 130 kg are 10 over 6 · 20, so 7 by the nearest 20. Weighing leaves in
- * variable 2 whether tare is larger, here 0; ADD adds variable 2 to variable 1, so 3 is written over it. */
+ * variable 2 whether tare is larger, here 0; ADD adds variable 2 to variable 1, so 3 is written over it. No call that reads the store
+ * takes a value above the ceiling: 7 and 3 are within it, and so is their sum. */
 static uint32_t weighed(void)
 {
     uint32_t number;

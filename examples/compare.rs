@@ -20,7 +20,7 @@ const FINISHED: u32 = 1;
 const SPENT: u32 = 4;
 
 /// The refusals by name, in the order of their numbers.
-const REFUSALS: [&str; 14] = [
+const REFUSALS: [&str; 17] = [
     "accepted",
     "bad buffer",
     "bad header",
@@ -35,6 +35,9 @@ const REFUSALS: [&str; 14] = [
     "bad rule",
     "too deep",
     "bad state",
+    "bad batch",
+    "literal above ceiling",
+    "value above ceiling",
 ];
 
 /// The outcomes by name, in the order of their numbers.
@@ -204,11 +207,11 @@ fn result(buf: &[u8], used: usize, store: &mut [u32]) -> u32 {
     unsafe { vistrokk_result(buf.as_ptr(), buf.len(), used, values, count) }
 }
 
-/// k = 4, {x3 := x1; for x4 := 1 to x2 {x3 := x3 + 1}}; compare.c says which bytes are what.
-const ADD: [u8; 64] = [
-    64, 0, 7, 0, 4, 0, 0, 0, 56, 0, 1, 0, 16, 0, 2, 0, 3, 0, 0, 0, 8, 0, 17, 0, 1, 0, 0, 0, 36, 0,
-    3, 0, 4, 0, 0, 0, 8, 0, 17, 0, 2, 0, 0, 0, 20, 0, 1, 0, 16, 0, 2, 0, 3, 0, 0, 0, 8, 0, 18, 0,
-    3, 0, 0, 0,
+/// k = 4, {x3 := x1; for x4 := 1 to x2 {x3 := x3 + 1}}, of edition 2, with a ceiling of 10; compare.c says which bytes are what.
+const ADD: [u8; 68] = [
+    68, 0, 9, 0, 4, 0, 0, 0, 10, 0, 0, 0, 56, 0, 1, 0, 16, 0, 2, 0, 3, 0, 0, 0, 8, 0, 17, 0, 1, 0,
+    0, 0, 36, 0, 3, 0, 4, 0, 0, 0, 8, 0, 17, 0, 2, 0, 0, 0, 20, 0, 1, 0, 16, 0, 2, 0, 3, 0, 0, 0,
+    8, 0, 18, 0, 3, 0, 0, 0,
 ];
 
 /// What both engines start from: a program's record and its values.
@@ -230,7 +233,8 @@ fn accepted(call: &'static str, number: u32) -> Result<(), Refused> {
 
 /// ADD, and a store whose first value comes from the scales: 130 kg are 10 over 6 · 20, so 7 by the
 /// nearest 20. Weighing leaves in variable 2 whether tare is larger, here 0; ADD adds variable 2 to
-/// variable 1, so 3 is written over it.
+/// variable 1, so 3 is written over it. No call that reads the store takes a value above the ceiling: 7
+/// and 3 are within it, and so is their sum.
 fn weighed() -> Result<Load, Refused> {
     let mut store = vec![0; 4];
     accepted("the load", weigh(ROUND_NEAREST, 1_500, 1_370, &mut store))?;

@@ -13,12 +13,11 @@ pub mod substitute;
 pub mod translate;
 
 use other::calls::{self, Ran};
-use other::check::depth;
+use other::check::{depth, Refusal};
 use other::codec::Record;
 use other::generate::batches::any_batch;
-use other::generate::lending::output_room;
 use other::generate::lending::{
-    closed, perhaps_damaged, sound_term, translatable_program, Lending,
+    closed, lent_store, output_room, perhaps_damaged, sound_term, translatable_program, Lending,
 };
 use other::generate::programs::store as generated_store;
 use other::generate::states::{any_spot, damaged};
@@ -63,22 +62,68 @@ fn put_all(bytes: &mut [u8], at: usize, k: u32) {
     }
 }
 
-/// A record that is reduced or stepped in place, and the length it has by now.
+/// What the header of a checked record says: k, the ceiling, and where its contents start.
+#[derive(Clone, Copy)]
+pub struct Header {
+    k: u32,
+    ceiling: u32,
+    contents: usize,
+}
+
+impl Header {
+    /// Edition 1 counts as the largest value.
+    fn of(buf: &[u8]) -> Header {
+        let k = word(buf, 4);
+        let (ceiling, contents) = match half(buf, 2) {
+            7 | 40 => (u32::MAX, 8),
+            _ => (word(buf, 8), 12),
+        };
+        Header {
+            k,
+            ceiling,
+            contents,
+        }
+    }
+
+    /// Row 6, then row 16.
+    fn takes(self, store: &[u32]) -> Result<(), Refusal> {
+        if store.len() != self.k as usize {
+            return Err(Refusal::BadStore);
+        }
+        self.takes_values(store)
+    }
+
+    /// Row 16.
+    fn takes_values(self, values: &[u32]) -> Result<(), Refusal> {
+        if values.iter().any(|value| *value > self.ceiling) {
+            return Err(Refusal::ValueAboveCeiling);
+        }
+        Ok(())
+    }
+}
+
+/// A record that is reduced or stepped in place, what its header says, and the length it has by now.
 struct State<'a> {
     buf: &'a mut [u8],
+    header: Header,
     used: usize,
 }
 
 impl State<'_> {
     /// Makes room for `wide` bytes where there are `narrow` at `at`, and tells all records around:
-    /// the header, and the heads that follow each other from 8 to `at`.
+    /// the header, and the heads that follow each other from its contents to `at`.
     fn resize(&mut self, at: usize, narrow: usize, wide: usize) {
         self.buf.copy_within(at + narrow..self.used, at + wide);
-        for head in [0].into_iter().chain((8..at).step_by(4)) {
-            let length = half(self.buf, head) - narrow + wide;
-            put_half(self.buf, head, length);
+        self.tell(0, narrow, wide);
+        for head in (self.header.contents..at).step_by(4) {
+            self.tell(head, narrow, wide);
         }
         self.used = self.used - narrow + wide;
+    }
+
+    fn tell(&mut self, head: usize, narrow: usize, wide: usize) {
+        let length = half(self.buf, head) - narrow + wide;
+        put_half(self.buf, head, length);
     }
 
     fn fits(&self, narrow: usize, wide: usize) -> bool {
@@ -145,7 +190,7 @@ pub fn agree() {
         } else {
             sound_term(random)
         };
-        let (budget, values) = (random.below(100) as u32, generated_store(random, program.k));
+        let (budget, values) = (random.below(100) as u32, lent_store(random, program.header));
         let lending = perhaps_damaged(random, &program.encode());
         agree_on_program(&lending, &values, budget);
         agree_on_counting(random, &program, &lending, &values, budget);
@@ -155,8 +200,9 @@ pub fn agree() {
         let lending = perhaps_damaged(random, &term.encode());
         agree_on_source(&lending, 16_384);
         agree_on_term(&lending, &values, budget);
-        let values = generated_store(random, term.k);
+        let values = lent_store(random, term.header);
         agree_on_term(&perhaps_damaged(random, &term.encode()), &values, budget);
+        let values = generated_store(random, term.header);
         substitute_in(&mut term.term, &values_of(&values));
         agree_on_term(&perhaps_damaged(random, &term.encode()), &values, budget);
         agree_on_batch(random);
@@ -183,7 +229,7 @@ fn agree_on_counting(
 ) {
     let mut state = [0; STATE_WORDS];
     if depth(program).is_ok() && !random.one_in(4) {
-        state = write(&any_spot(random, &program.block), program);
+        state = write(&any_spot(random, program), program);
     }
     if random.one_in(4) {
         state = damaged(random, &state);

@@ -1,6 +1,6 @@
-//! So many steps of ADD, or of ADD with minus one in the place of plus one, by one engine of the
-//! library, for a count of instructions: `steps stepper|counting|reducer add|subtract BUDGET`. ./bench
-//! runs it under callgrind with two budgets and divides.
+//! So many steps of ADD, or of ADD with minus one in the place of plus one, or of ADD in edition 2, by
+//! one engine of the library, for a count of instructions: `steps stepper|counting|reducer
+//! add|subtract|ceiling BUDGET`. ./bench runs it under callgrind with two budgets and divides.
 
 use std::hint::black_box;
 
@@ -15,6 +15,7 @@ fn main() {
     let program = match arguments[2].as_str() {
         "add" => add(),
         "subtract" => subtract(),
+        "ceiling" => add().under(1_000_000),
         program => panic!("no such program: {program}"),
     };
     let budget = arguments[3].parse().expect("a budget");

@@ -14,7 +14,7 @@ use crate::run::stepper::Config;
 use crate::run::{self, Outcome};
 use crate::substitute::{closed, substitute as substitute_in, values_of};
 use crate::translate;
-use crate::tree::{Program, Term, TermRecord};
+use crate::tree::{Header, Program, Term, TermRecord};
 
 #[derive(Clone, Copy, Debug, Default, PartialEq, Eq)]
 pub struct Checked {
@@ -115,27 +115,27 @@ impl Counted {
     }
 }
 
-// Rows 1–5.
+// Rows 1–5, 15.
 
 pub fn check_program(buf: &[u8], used: usize) -> Checked {
-    checked(check::lent::<Program>(buf, used))
+    checked(check::lent_within::<Program>(buf, used))
 }
 
 pub fn check_term(buf: &[u8], used: usize) -> Checked {
-    checked(check::lent::<TermRecord>(buf, used))
+    checked(check::lent_within::<TermRecord>(buf, used))
 }
 
 fn checked<R: Record>(answer: Result<R, Refusal>) -> Checked {
     match answer {
         Ok(tree) => Checked {
             number: 0,
-            k: tree.k(),
+            k: tree.header().k,
         },
         Err(refusal) => Checked::refused(refusal),
     }
 }
 
-// Rows 1–5, 10.
+// Rows 1–5, 15, 10.
 
 pub fn translate(src: &[u8], used: usize, out: &mut [u8]) -> Written {
     written(translation(src, used, out.len()), out)
@@ -146,7 +146,7 @@ fn translation(src: &[u8], used: usize, room: usize) -> Result<Vec<u8>, Refusal>
     fitting(&translate::translate(&program), room)
 }
 
-// Rows 1–5, 9, 10.
+// Rows 1–5, 15, 9, 10.
 
 pub fn read_back(src: &[u8], used: usize, out: &mut [u8]) -> Written {
     written(program_of(src, used, out.len()), out)
@@ -161,7 +161,7 @@ fn program_of(src: &[u8], used: usize, room: usize) -> Result<Vec<u8>, Refusal> 
 /// Row 1 for both buffers, the output too, comes before row 2 for the source.
 fn source<R: Record>(src: &[u8], used: usize, room: usize) -> Result<R, Refusal> {
     check::buffer(room, 0)?;
-    check::lent(src, used)
+    check::lent_within(src, used)
 }
 
 /// Row 10. The length is measured before anything is encoded: it may not fit in 16 bits.
@@ -172,7 +172,7 @@ fn fitting<R: Record>(answer: &R, room: usize) -> Result<Vec<u8>, Refusal> {
     Ok(answer.encode())
 }
 
-// Rows 1–6.
+// Rows 1–5, 15, 6, 16.
 
 pub fn substitute(buf: &mut [u8], used: usize, store: &[u32]) -> Substituted {
     match substituted(buf, used, store) {
@@ -186,13 +186,14 @@ pub fn substitute(buf: &mut [u8], used: usize, store: &[u32]) -> Substituted {
 }
 
 fn substituted(buf: &[u8], used: usize, store: &[u32]) -> Result<(Vec<u8>, u32), Refusal> {
-    let mut record: TermRecord = check::lent(buf, used)?;
-    values_for(record.k, store)?;
+    let mut record: TermRecord = check::lent_within(buf, used)?;
+    values_for(record.header, store)?;
+    check::values(record.header, store)?;
     let replaced = substitute_in(&mut record.term, &values_of(store));
     Ok((record.encode(), replaced))
 }
 
-// Rows 1–6.
+// Rows 1–5, 15, 6, 16.
 
 pub fn run_stepper(buf: &mut [u8], used: usize, store: &mut [u32], budget: u32) -> Ran {
     let mut config = match configuration(buf, used, store) {
@@ -205,13 +206,14 @@ pub fn run_stepper(buf: &mut [u8], used: usize, store: &mut [u32], budget: u32) 
 }
 
 fn configuration(buf: &[u8], used: usize, store: &[u32]) -> Result<Config, Refusal> {
-    let program: Program = check::lent(buf, used)?;
-    values_for(program.k, store)?;
+    let program: Program = check::lent_within(buf, used)?;
+    values_for(program.header, store)?;
+    check::values(program.header, store)?;
     let store = store.to_vec();
     Ok(Config { program, store })
 }
 
-// Rows 1–5, 12, 6, 13.
+// Rows 1–5, 12, 15, 6, 13, 16.
 
 /// The program is lent unchanged with every order; the state and the store are written.
 pub fn run_counting(
@@ -244,8 +246,11 @@ fn counting(
 ) -> Result<Counting, Refusal> {
     let program: Program = check::lent(program, used)?;
     check::depth(&program)?;
-    values_for(program.k, store)?;
+    check::literals(&program)?;
+    values_for(program.header, store)?;
     let spot = words::read(state, &program).ok_or(Refusal::BadState)?;
+    check::values(program.header, store)?;
+    check::values(program.header, &spot.values())?;
     let store = store.to_vec();
     Ok(Counting {
         program,
@@ -254,7 +259,7 @@ fn counting(
     })
 }
 
-// Rows 1 (both buffers), 2–5, 12, 6, 13, 10.
+// Rows 1 (both buffers), 2–5, 12, 15, 6, 13, 16, 10.
 
 pub fn expand(
     program: &[u8],
@@ -282,7 +287,7 @@ fn expanded(
     Ok(counting.expansion().program.encode())
 }
 
-// Rows 1–5, 7.
+// Rows 1–5, 15, 7.
 
 pub fn run_reducer(buf: &mut [u8], used: usize, budget: u32) -> Reduced {
     let mut record = match closed_term(buf, used) {
@@ -298,12 +303,12 @@ pub fn run_reducer(buf: &mut [u8], used: usize, budget: u32) -> Reduced {
 }
 
 fn closed_term(buf: &[u8], used: usize) -> Result<TermRecord, Refusal> {
-    let record: TermRecord = check::lent(buf, used)?;
+    let record: TermRecord = check::lent_within(buf, used)?;
     without_free_variable(&record.term)?;
     Ok(record)
 }
 
-// Rows 1 (all three buffers), 14, 2–5, 6, 10.
+// Rows 1 (all three buffers), 14, 2–5, 15, 6, 16, 10.
 
 /// One job for each budget: the reducer's run from its start store (02, C-16). `term` is left holding the
 /// program's term, and `work`, in which the reducer runs, all zero.
@@ -317,12 +322,12 @@ pub fn run_batch(
     answers: &mut [u32],
 ) -> Written {
     let rooms = [term.len(), work.len()];
-    let lengths = [budgets.len(), values.len(), answers.len()];
-    let record = match term_of_all(program, used, rooms, lengths) {
+    let lengths = [budgets.len(), answers.len()];
+    let record = match term_of_all(program, used, rooms, values, lengths) {
         Ok(record) => record,
         Err(refusal) => return Written::refused(refusal),
     };
-    let k = record.k as usize;
+    let k = record.header.k as usize;
     let jobs = budgets.iter().zip(values.chunks_exact(k));
     for ((budget, store), answer) in jobs.zip(answers.chunks_exact_mut(k + 2)) {
         answer.copy_from_slice(&answer_to(&record, store, work.len(), *budget));
@@ -334,12 +339,13 @@ pub fn run_batch(
     }
 }
 
-/// The term that all jobs start from. `lengths` are those of the budgets, the values and the answers.
+/// The term that all jobs start from. The two lengths are those of the budgets and the answers.
 fn term_of_all(
     program: &[u8],
     used: usize,
     rooms: [usize; 2],
-    [jobs, values, answers]: [usize; 3],
+    values: &[u32],
+    [jobs, answers]: [usize; 2],
 ) -> Result<TermRecord, Refusal> {
     check::buffer(program.len(), used)?;
     for room in rooms {
@@ -347,10 +353,12 @@ fn term_of_all(
     }
     check::batch(jobs)?;
     let program: Program = check::record(&program[..used])?;
-    let k = program.k as usize;
-    if values != jobs * k || answers != jobs * (k + 2) {
+    check::literals(&program)?;
+    let k = program.header.k as usize;
+    if values.len() != jobs * k || answers != jobs * (k + 2) {
         return Err(Refusal::BadStore);
     }
+    check::values(program.header, values)?;
     let record = translate::translate(&program);
     if rooms.iter().any(|room| record.encoded_len() > *room) {
         return Err(Refusal::OutputTooShort);
@@ -367,7 +375,8 @@ fn answer_to(term: &TermRecord, store: &[u32], room: usize, budget: u32) -> Vec<
     [vec![outcome.number(), steps], end].concat()
 }
 
-// Rows 1–8: the store before the free variable, and that before "not finished".
+// Rows 1–5, 15, 6–8: the store before the free variable, and that before "not finished". The store is only
+// written, so row 16 does not look at it.
 
 pub fn result(buf: &[u8], used: usize, store: &mut [u32]) -> u32 {
     match numerals(buf, used, store.len()) {
@@ -380,8 +389,8 @@ pub fn result(buf: &[u8], used: usize, store: &mut [u32]) -> u32 {
 }
 
 fn numerals(buf: &[u8], used: usize, places: usize) -> Result<Vec<u32>, Refusal> {
-    let record: TermRecord = check::lent(buf, used)?;
-    if places != record.k as usize {
+    let record: TermRecord = check::lent_within(buf, used)?;
+    if places != record.header.k as usize {
         return Err(Refusal::BadStore);
     }
     without_free_variable(&record.term)?;
@@ -422,8 +431,8 @@ fn rounded(rule: u32, net: u32) -> Option<u32> {
 
 // Shared.
 
-fn values_for(k: u32, store: &[u32]) -> Result<(), Refusal> {
-    if store.len() != k as usize {
+fn values_for(header: Header, store: &[u32]) -> Result<(), Refusal> {
+    if store.len() != header.k as usize {
         return Err(Refusal::BadStore);
     }
     Ok(())

@@ -1,17 +1,19 @@
-//! Rows 1 to 5 of 01, "Where an order stops", rows 12 and 14 of 02, and the numbers of all: 01's ten and 02's.
+//! Rows 1 to 5 of 01, "Where an order stops", rows 12, 14, 15 and 16 of 02, and the numbers of all:
+//! 01's ten and 02's.
 
 use crate::codec::Record;
-use crate::tree::{Block, Command, Program};
+use crate::tree::{Block, Command, Header, Program, Value};
 
-/// Why a call is refused, by the names of `include/vistrokk.h` and in the order of the table, 01's with 02's
-/// rows at their places; the discriminant is the number.
+/// Why a call is refused, by the names of `include/vistrokk.h` and in the order of the table, 01's with
+/// 02's rows at their places; the discriminant is the number.
 #[derive(Clone, Copy, Debug, PartialEq, Eq)]
 pub enum Refusal {
     /// A buffer above 16,384 bytes, or a used length above its buffer.
     BadBuffer = 1,
     /// A batch of no store, or of more than 64 (02, C-16: after refusal 1).
     BadBatch = 14,
-    /// Under 8 bytes used, or the wrong kind, or a length that is not the used length.
+    /// Under 8 bytes used, or under 12 in edition 2 (02, C-17), or the wrong kind, or a length that is not
+    /// the used length.
     BadHeader = 2,
     /// k is not 1 to 16.
     BadK = 3,
@@ -21,12 +23,17 @@ pub enum Refusal {
     BadVariable = 5,
     /// Blocks and loops nested over 32 deep (02, C-14: after refusal 5).
     TooDeep = 12,
+    /// A literal or numeral above the header's ceiling (02, C-17: after refusals 5 and 12).
+    LiteralAboveCeiling = 15,
     /// A store of other than k values (weighing: of other than 1 to 16).
     BadStore = 6,
     /// Weighing: a rule number other than 1 or 2 (02, C-11: after refusal 6).
     BadRule = 11,
     /// Words that hold no state of the program (02, C-14: after refusal 6).
     BadState = 13,
+    /// A value above the header's ceiling in a store that is read, or in a counting state (02, C-17: after
+    /// refusals 6 and 13).
+    ValueAboveCeiling = 16,
     /// A free variable.
     FreeVariable = 7,
     /// Not finished.
@@ -51,9 +58,6 @@ impl From<Refusal> for u32 {
 
 /// The largest buffer that may be lent (01, "Records").
 pub const BUFFER_LIMIT: usize = 16_384;
-
-/// A header: length, kind and k.
-const HEADER: usize = 8;
 
 /// Row 1 for one lent buffer. A buffer that only takes output counts as used to 0 bytes.
 pub fn buffer(len: usize, used: usize) -> Result<(), Refusal> {
@@ -80,7 +84,7 @@ pub fn batch(stores: usize) -> Result<(), Refusal> {
 /// Row 4 is asked of the whole record before row 5 is asked of any part, because decoding takes
 /// every variable number and the numbers are looked at in the finished tree.
 pub fn record<R: Record>(used: &[u8]) -> Result<R, Refusal> {
-    let k = header(used, R::KIND)?;
+    let Header { k, .. } = header(used, R::KINDS)?;
     if !(1..=16).contains(&k) {
         return Err(Refusal::BadK);
     }
@@ -92,15 +96,43 @@ pub fn record<R: Record>(used: &[u8]) -> Result<R, Refusal> {
     Ok(tree)
 }
 
-/// Row 2; gives the header's k.
-fn header(used: &[u8], kind: u16) -> Result<u32, Refusal> {
-    let head: &[u8; HEADER] = used.first_chunk().ok_or(Refusal::BadHeader)?;
-    let [l0, l1, k0, k1, word @ ..] = *head;
-    let len = usize::from(u16::from_le_bytes([l0, l1]));
-    if u16::from_le_bytes([k0, k1]) != kind || len != used.len() {
+/// Row 2; gives the header. One of edition 2 needs 12 bytes, whatever they are.
+fn header(used: &[u8], [first, second]: [u16; 2]) -> Result<Header, Refusal> {
+    let [l0, l1, k0, k1, k @ ..]: [u8; 8] = *used.first_chunk().ok_or(Refusal::BadHeader)?;
+    let kind = u16::from_le_bytes([k0, k1]);
+    let k = u32::from_le_bytes(k);
+    if usize::from(u16::from_le_bytes([l0, l1])) != used.len() {
         return Err(Refusal::BadHeader);
     }
-    Ok(u32::from_le_bytes(word))
+    if kind == first {
+        return Ok(Header::first(k));
+    }
+    let ceiling: [u8; 4] = *used[8..].first_chunk().ok_or(Refusal::BadHeader)?;
+    if kind != second {
+        return Err(Refusal::BadHeader);
+    }
+    Ok(Header::second(k, u32::from_le_bytes(ceiling)))
+}
+
+/// Row 15: no literal of a program, in an expression or a bound, and no numeral of a term is above the
+/// ceiling of its header.
+pub fn literals<R: Record>(record: &R) -> Result<(), Refusal> {
+    if above(record.header(), &record.literals()) {
+        return Err(Refusal::LiteralAboveCeiling);
+    }
+    Ok(())
+}
+
+/// Row 16, for the values of a store that is read, or of a counting state.
+pub fn values(header: Header, values: &[Value]) -> Result<(), Refusal> {
+    if above(header, values) {
+        return Err(Refusal::ValueAboveCeiling);
+    }
+    Ok(())
+}
+
+fn above(header: Header, values: &[Value]) -> bool {
+    values.iter().any(|value| *value > header.ceiling())
 }
 
 /// The deepest nesting that the counting stepper takes (02, C-14).
@@ -126,4 +158,11 @@ fn block_depth(block: &Block) -> usize {
 pub fn lent<R: Record>(lent: &[u8], used: usize) -> Result<R, Refusal> {
     buffer(lent.len(), used)?;
     record(&lent[..used])
+}
+
+/// The same, and row 15 behind them.
+pub fn lent_within<R: Record>(buffer: &[u8], used: usize) -> Result<R, Refusal> {
+    let tree = lent(buffer, used)?;
+    literals(&tree)?;
+    Ok(tree)
 }

@@ -4,16 +4,17 @@
 //! are little-endian, and a value, a variable number and k take 4 bytes each.
 
 use crate::tree::{
-    program_variables, term_variables, Atom, Block, Bound, Command, Expr, Program, Simple, Term,
-    TermRecord, Variable,
+    program_literals, program_variables, term_numerals, term_variables, Atom, Block, Bound,
+    Command, Edition, Expr, Header, Program, Simple, Term, TermRecord, Value, Variable,
 };
 
-/// The kind numbers of 01's table.
+/// The kind numbers of 01's table, and those of edition 2's headers (02, C-17).
 pub mod kind {
     pub const BLOCK: u16 = 1;
     pub const ASSIGNMENT: u16 = 2;
     pub const LOOP: u16 = 3;
     pub const PROGRAM: u16 = 7;
+    pub const PROGRAM_2: u16 = 9;
     pub const LITERAL: u16 = 16;
     pub const VARIABLE: u16 = 17;
     pub const PLUS_ONE: u16 = 18;
@@ -27,22 +28,26 @@ pub mod kind {
     pub const LET_ALL: u16 = 38;
     pub const REC: u16 = 39;
     pub const TERM: u16 = 40;
+    pub const TERM_2: u16 = 41;
 }
 
 /// Length and kind, before the contents of any record.
 const HEAD: usize = 4;
-/// A value, a variable number or k.
+/// A value, a variable number, k or a ceiling.
 const WORD: usize = 4;
 /// An expression, a bound or an atom: its head and one word.
 const LEAF: usize = HEAD + WORD;
 
 /// The two records that a caller can lend: a program and a term.
 pub trait Record: Sized {
-    const KIND: u16;
+    /// The header's kind in edition 1 and in edition 2.
+    const KINDS: [u16; 2];
 
-    fn k(&self) -> u32;
+    fn header(&self) -> Header;
     /// Every variable number in the record.
     fn variables(&self) -> Vec<Variable>;
+    /// Every literal of a program, every numeral of a term.
+    fn literals(&self) -> Vec<Value>;
     /// The record's length. Never cut to 16 bits: a translation can be 556,788 bytes long.
     fn encoded_len(&self) -> usize;
     /// The record's bytes. Only for records of at most 65,535 bytes: no other has a length field.
@@ -52,68 +57,76 @@ pub trait Record: Sized {
 }
 
 impl Record for Program {
-    const KIND: u16 = kind::PROGRAM;
+    const KINDS: [u16; 2] = [kind::PROGRAM, kind::PROGRAM_2];
 
-    fn k(&self) -> u32 {
-        self.k
+    fn header(&self) -> Header {
+        self.header
     }
 
     fn variables(&self) -> Vec<Variable> {
         program_variables(self)
     }
 
+    fn literals(&self) -> Vec<Value> {
+        program_literals(self)
+    }
+
     fn encoded_len(&self) -> usize {
-        HEAD + WORD + block_len(&self.block)
+        header_len(self.header) + block_len(&self.block)
     }
 
     fn encode(&self) -> Vec<u8> {
-        let mut out = Vec::new();
-        put_record(&mut out, kind::PROGRAM, |out| {
-            put_word(out, self.k);
-            put_block(out, &self.block);
-        });
-        out
+        let put = |out: &mut Vec<u8>| put_block(out, &self.block);
+        with_header(self.header, Program::KINDS, put)
     }
 
     fn decode(bytes: &[u8]) -> Option<Program> {
-        let (k, mut contents) = read_header(bytes, kind::PROGRAM)?;
+        let (header, mut contents) = read_header(bytes, Program::KINDS)?;
         let block = read_block(&mut contents)?;
-        contents.end(Program { k, block })
+        contents.end(Program { header, block })
     }
 }
 
 impl Record for TermRecord {
-    const KIND: u16 = kind::TERM;
+    const KINDS: [u16; 2] = [kind::TERM, kind::TERM_2];
 
-    fn k(&self) -> u32 {
-        self.k
+    fn header(&self) -> Header {
+        self.header
     }
 
     fn variables(&self) -> Vec<Variable> {
         term_variables(&self.term)
     }
 
+    fn literals(&self) -> Vec<Value> {
+        term_numerals(&self.term)
+    }
+
     fn encoded_len(&self) -> usize {
-        HEAD + WORD + term_len(&self.term)
+        header_len(self.header) + term_len(&self.term)
     }
 
     fn encode(&self) -> Vec<u8> {
-        let mut out = Vec::new();
-        put_record(&mut out, kind::TERM, |out| {
-            put_word(out, self.k);
-            put_term(out, &self.term);
-        });
-        out
+        let put = |out: &mut Vec<u8>| put_term(out, &self.term);
+        with_header(self.header, TermRecord::KINDS, put)
     }
 
     fn decode(bytes: &[u8]) -> Option<TermRecord> {
-        let (k, mut contents) = read_header(bytes, kind::TERM)?;
-        let term = read_term(&mut contents, k)?;
-        contents.end(TermRecord { k, term })
+        let (header, mut contents) = read_header(bytes, TermRecord::KINDS)?;
+        let term = read_term(&mut contents, header.k)?;
+        contents.end(TermRecord { header, term })
     }
 }
 
 // Lengths.
+
+/// Length, kind and k; in edition 2 the ceiling behind them.
+pub fn header_len(header: Header) -> usize {
+    match header.edition {
+        Edition::First => HEAD + WORD,
+        Edition::Second(_) => HEAD + WORD + WORD,
+    }
+}
 
 fn block_len(block: &Block) -> usize {
     HEAD + block.iter().map(command_len).sum::<usize>()
@@ -161,6 +174,27 @@ fn put_record(out: &mut Vec<u8>, kind: u16, contents: impl FnOnce(&mut Vec<u8>))
     contents(out);
     let len = u16::try_from(out.len() - start).expect("a record of at most 65,535 bytes");
     out[start..start + 2].copy_from_slice(&len.to_le_bytes());
+}
+
+/// A whole record: the header, of the kind that its edition has, and what `put` writes behind it.
+fn with_header(
+    header: Header,
+    [first, second]: [u16; 2],
+    put: impl FnOnce(&mut Vec<u8>),
+) -> Vec<u8> {
+    let mut out = Vec::new();
+    match header.edition {
+        Edition::First => put_record(&mut out, first, |out| {
+            put_word(out, header.k);
+            put(out);
+        }),
+        Edition::Second(ceiling) => put_record(&mut out, second, |out| {
+            put_word(out, header.k);
+            put_word(out, ceiling);
+            put(out);
+        }),
+    }
+    out
 }
 
 fn put_leaf(out: &mut Vec<u8>, kind: u16, word: u32) {
@@ -282,13 +316,17 @@ impl<'a> Contents<'a> {
     }
 }
 
-/// A header of this kind that is as long as the bytes: k, and the contents after it.
-fn read_header(bytes: &[u8], kind: u16) -> Option<(u32, Contents<'_>)> {
+/// A header of one of these kinds, which says the length of the bytes, and the contents after it.
+fn read_header(bytes: &[u8], [first, second]: [u16; 2]) -> Option<(Header, Contents<'_>)> {
     let mut all = Contents(bytes);
-    let (found, mut contents) = all.record()?;
+    let (kind, mut contents) = all.record()?;
     all.end(())?;
     let k = contents.word()?;
-    (found == kind).then_some((k, contents))
+    if kind == first {
+        return Some((Header::first(k), contents));
+    }
+    let ceiling = contents.word()?;
+    (kind == second).then_some((Header::second(k, ceiling), contents))
 }
 
 fn read_block(from: &mut Contents) -> Option<Block> {

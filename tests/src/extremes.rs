@@ -1,68 +1,132 @@
-//! The longest, the deepest and the most branching records that can be lent.
+//! The longest, the deepest and the most branching records that can be lent, in both editions.
 //!
 //! They are for the stack, for a step that has to change many lengths at once, and for timing. To
 //! make, encode or drop one takes a big stack: see [`crate::tree::with_big_stack`].
 
-use crate::codec::Record;
+use crate::codec::{header_len, Record};
 use crate::examples::{nest_of_blocks, nest_of_loops, program, row_of_blocks};
 use crate::substitute::{substitute, values_of};
 use crate::translate::translate;
-use crate::tree::{Atom, Block, Bound, Command, Expr, Program, Simple, Term, TermRecord};
+use crate::tree::{
+    Atom, Block, Bound, Command, Edition, Expr, Header, Program, Simple, Term, TermRecord,
+};
+
+/// Both editions; the second with a ceiling that no value of these records is above.
+pub const EDITIONS: [Edition; 2] = [Edition::First, Edition::Second(1_000)];
+
+/// Records, or what they are made of, with their names.
+pub type Named<T> = Vec<(String, T)>;
+pub type Records = Named<Vec<u8>>;
 
 /// What is left for the commands of 16,384 bytes: less the header and the outermost block's head.
-const COMMANDS: usize = 16_384 - 12;
+fn room_for_commands(edition: Edition) -> usize {
+    16_384 - header_len(Header { k: 1, edition }) - 4
+}
 
 /// How many blocks a program can have beside the outermost so that its term fits at k = 1: the
-/// term is 8 bytes, 16 for each block (a let-all's head and a tuple) and the last tuple's 12.
+/// term is 8 bytes, 16 for each block (a let-all's head and a tuple) and the last tuple's 12. The 4 bytes
+/// more of edition 2 fit as well, here and below.
 const BLOCKS_IN_TERM: usize = (16_384 - 20) / 16;
 
-/// Programs of up to 16,384 bytes. 4,093 empty blocks in a row, or so many within the outermost
-/// one, are 12 + 4·4,093 bytes; a loop's head takes 20, an assignment 16.
-pub fn programs() -> Vec<(&'static str, Program)> {
-    let assignment = Command::Assign(1, Expr::PlusOne(1));
-    let assignments = vec![assignment; COMMANDS / 16];
-    vec![
-        ("4,094 nested blocks", nest_of_blocks(1, 4_093)),
-        ("4,093 blocks in a row", row_of_blocks(1, 4_093)),
-        ("818 nested loops", nest_of_loops(1, 1, 818)),
-        ("balanced tree of blocks", program(1, blocks(COMMANDS))),
-        ("balanced tree of loops", program(1, loops(COMMANDS))),
-        ("1,023 assignments", program(1, assignments)),
-    ]
+/// The same for loops within each other: a loop's term is a let-all's head of 4, the rec's own 28 and a
+/// tuple of 12.
+const LOOPS_IN_TERM: usize = (16_384 - 20) / 44;
+
+/// Programs of up to 16,384 bytes. A block's head takes 4 of them, a loop's 20, an assignment 16.
+pub fn programs(edition: Edition) -> Named<Program> {
+    let room = room_for_commands(edition);
+    let count = |length| room / length;
+    let assignments = vec![Command::Assign(1, Expr::PlusOne(1)); count(16)];
+    let literals = vec![Command::Assign(1, Expr::Literal(6)); count(16)];
+    let all = [
+        named(count(4) + 1, "nested blocks", nest_of_blocks(1, count(4))),
+        named(count(4), "blocks in a row", row_of_blocks(1, count(4))),
+        named(count(20), "nested loops", nest_of_loops(1, 1, count(20))),
+        ("balanced tree of blocks".into(), program(1, blocks(room))),
+        ("balanced tree of loops".into(), program(1, loops(room))),
+        named(count(16), "assignments", program(1, assignments)),
+        named(count(16), "literals", program(1, literals)),
+    ];
+    in_edition(edition, all, |program| &mut program.header)
 }
 
 /// Terms of up to 16,384 bytes at k = 1, where most lets fit. The first four are translations, of
 /// programs whose lengths follow from their terms'.
-pub fn terms() -> Vec<(&'static str, TermRecord)> {
-    let nested = nest_of_blocks(1, BLOCKS_IN_TERM);
-    let row = row_of_blocks(1, BLOCKS_IN_TERM);
-    let balanced = program(1, blocks(4 * BLOCKS_IN_TERM));
-    // A loop's term is a let-all's head of 4, the rec's own 28 and a tuple of 12.
-    let nested_loops = nest_of_loops(1, 1, (16_384 - 20) / 44);
-    let plain = |term| TermRecord { k: 1, term };
-    vec![
-        ("1,022 let-alls nested", translate(&nested)),
-        ("1,022 let-alls in a row", translate(&row)),
-        ("balanced tree of let-alls", translate(&balanced)),
-        ("371 recs nested in let-alls", translate(&nested_loops)),
-        ("1,022 let-ones", plain(let_ones((16_384 - 20) / 16))),
-        ("584 recs nested", plain(recs((16_384 - 20) / 28))),
-    ]
+pub fn terms(edition: Edition) -> Named<TermRecord> {
+    let (blocks_in, loops_in) = (BLOCKS_IN_TERM, LOOPS_IN_TERM);
+    let balanced = program(1, blocks(4 * blocks_in));
+    let recs_in = (16_384 - 20) / 28;
+    let all = [
+        named(
+            blocks_in,
+            "let-alls nested",
+            translate(&nest_of_blocks(1, blocks_in)),
+        ),
+        named(
+            blocks_in,
+            "let-alls in a row",
+            translate(&row_of_blocks(1, blocks_in)),
+        ),
+        ("balanced tree of let-alls".into(), translate(&balanced)),
+        named(
+            loops_in,
+            "recs nested in let-alls",
+            translate(&nest_of_loops(1, 1, loops_in)),
+        ),
+        named(
+            blocks_in,
+            "let-ones",
+            TermRecord::new(1, let_ones(blocks_in)),
+        ),
+        named(recs_in, "recs nested", TermRecord::new(1, recs(recs_in))),
+    ];
+    in_edition(edition, all, |term| &mut term.header)
 }
 
 /// The programs of those terms that are translations, so that their translation fits.
-pub fn translatable() -> Vec<(&'static str, Program)> {
-    let nested_loops = nest_of_loops(1, 1, (16_384 - 20) / 44);
-    vec![
-        ("1,022 nested blocks", nest_of_blocks(1, BLOCKS_IN_TERM)),
-        ("1,022 blocks in a row", row_of_blocks(1, BLOCKS_IN_TERM)),
-        (
-            "balanced, 1,022 blocks",
-            program(1, blocks(4 * BLOCKS_IN_TERM)),
-        ),
-        ("371 nested loops", nested_loops),
-        ("119 blocks at k = 16", row_of_blocks(16, 119)),
-    ]
+pub fn translatable(edition: Edition) -> Named<Program> {
+    let (blocks_in, loops_in) = (BLOCKS_IN_TERM, LOOPS_IN_TERM);
+    let balanced = program(1, blocks(4 * blocks_in));
+    let all = [
+        named(blocks_in, "nested blocks", nest_of_blocks(1, blocks_in)),
+        named(blocks_in, "blocks in a row", row_of_blocks(1, blocks_in)),
+        ("balanced tree of blocks".into(), balanced),
+        named(loops_in, "nested loops", nest_of_loops(1, 1, loops_in)),
+        ("119 blocks at k = 16".into(), row_of_blocks(16, 119)),
+    ];
+    in_edition(edition, all, |program| &mut program.header)
+}
+
+fn named<T>(count: usize, what: &str, record: T) -> (String, T) {
+    (format!("{} {what}", in_thousands(count)), record)
+}
+
+/// A number of up to six digits as it is written in text: 4,094.
+fn in_thousands(count: usize) -> String {
+    match count / 1_000 {
+        0 => count.to_string(),
+        thousands => format!("{thousands},{:03}", count % 1_000),
+    }
+}
+
+/// The same with headers of this edition.
+fn in_edition<T, const N: usize>(
+    edition: Edition,
+    all: [(String, T); N],
+    header: fn(&mut T) -> &mut Header,
+) -> Named<T> {
+    let own = |(name, mut record): (String, T)| {
+        header(&mut record).edition = edition;
+        (name + suffix(edition), record)
+    };
+    all.into_iter().map(own).collect()
+}
+
+fn suffix(edition: Edition) -> &'static str {
+    match edition {
+        Edition::First => "",
+        Edition::Second(_) => ", edition 2",
+    }
 }
 
 /// Commands of exactly `room` bytes, a multiple of 4: a block, and the rest of the row, each with
@@ -106,19 +170,26 @@ fn recs(depth: usize) -> Term {
     (0..depth).fold(one(zero), wrap)
 }
 
-/// Records with their names.
-pub type Records = Vec<(&'static str, Vec<u8>)>;
-
-/// All programs, those whose translation fits behind those that are as long as can be.
+/// All programs in both editions, those whose translation fits behind those that are as long as can be.
 pub fn program_records() -> Records {
-    let all = programs().into_iter().chain(translatable());
-    all.map(|(name, program)| (name, program.encode()))
+    let of = |edition| [programs(edition), translatable(edition)].concat();
+    EDITIONS
+        .into_iter()
+        .flat_map(|edition| encoded(of(edition)))
         .collect()
 }
 
 /// The same for the counting stepper (02, C-14): also the deepest that it takes, 31 within the
 /// outermost block.
 pub fn counting_records() -> Records {
+    let of = |edition| [deepest(edition), programs(edition)].concat();
+    EDITIONS
+        .into_iter()
+        .flat_map(|edition| encoded(of(edition)))
+        .collect()
+}
+
+fn deepest(edition: Edition) -> Named<Program> {
     let in_turns = (0..31).fold(
         vec![Command::Assign(1, Expr::PlusOne(1))],
         |inner, n| match n % 2 {
@@ -126,38 +197,54 @@ pub fn counting_records() -> Records {
             _ => vec![Command::Loop(1, Bound::Literal(2), inner)],
         },
     );
-    let deepest = [
-        ("31 nested blocks", nest_of_blocks(1, 31)),
-        ("31 nested loops", nest_of_loops(1, 1, 31)),
-        ("31 loops and blocks", program(1, in_turns)),
+    let all = [
+        named(31, "nested blocks", nest_of_blocks(1, 31)),
+        named(31, "nested loops", nest_of_loops(1, 1, 31)),
+        named(31, "loops and blocks", program(1, in_turns)),
     ];
-    let all = deepest.into_iter().chain(programs());
-    all.map(|(name, program)| (name, program.encode()))
-        .collect()
+    in_edition(edition, all, |program| &mut program.header)
 }
 
 pub fn term_records() -> Records {
-    let all = terms().into_iter();
-    all.map(|(name, term)| (name, term.encode())).collect()
+    EDITIONS
+        .into_iter()
+        .flat_map(|edition| encoded(terms(edition)))
+        .collect()
 }
 
 /// The same terms with 3 for every variable.
 pub fn closed_records() -> Records {
-    let closed = |(name, mut record): (&'static str, TermRecord)| {
-        let values = vec![3; record.k as usize];
+    EDITIONS
+        .into_iter()
+        .flat_map(|edition| encoded(closed(edition)))
+        .collect()
+}
+
+fn closed(edition: Edition) -> Named<TermRecord> {
+    let mut all = terms(edition);
+    for (_, record) in &mut all {
+        let values = vec![3; record.header.k as usize];
         substitute(&mut record.term, &values_of(&values));
-        (name, record.encode())
-    };
-    terms().into_iter().map(closed).collect()
+    }
+    all
 }
 
 /// A tuple of 16 numerals.
 pub fn finished_record() -> Records {
     let term = Term::Tuple(vec![Atom::Numeral(5); 16]);
-    vec![("16 numerals", TermRecord { k: 16, term }.encode())]
+    let of = |edition| {
+        let all = [named(16, "numerals", TermRecord::new(16, term.clone()))];
+        encoded(in_edition(edition, all, |term| &mut term.header))
+    };
+    EDITIONS.into_iter().flat_map(of).collect()
 }
 
 /// What a result is asked of: terms that are open, closed and finished.
 pub fn result_records() -> Records {
     [term_records(), closed_records(), finished_record()].concat()
+}
+
+fn encoded<R: Record>(all: Named<R>) -> Records {
+    let one = |(name, record): (String, R)| (name, record.encode());
+    all.into_iter().map(one).collect()
 }

@@ -1,7 +1,8 @@
-//! Seeded generators: sound programs and terms, damaged records, stores, budgets, lists of runs, states of
-//! the counting stepper, batches.
+//! Seeded generators: sound programs and terms in both editions, damaged records, stores, budgets, lists of
+//! runs, states of the counting stepper, batches.
 
 pub mod batches;
+pub mod ceilings;
 pub mod damage;
 pub mod lending;
 pub mod programs;

@@ -1,8 +1,9 @@
 //! The program's printed line (01, "Bench loads", last part).
 
-use crate::calls::{check_program, run_reducer, run_stepper, substitute, translate, Ran};
-use crate::check::{Refusal, BUFFER_LIMIT};
+use crate::calls::{run_reducer, run_stepper, substitute, translate, Ran};
+use crate::check::{self, Refusal, BUFFER_LIMIT};
 use crate::run::Outcome;
+use crate::tree::Program;
 
 /// Each engine's budget.
 const BUDGET: u32 = 1_000_000;
@@ -22,17 +23,23 @@ struct Lent {
 }
 
 fn report(input: &[u8]) -> Result<String, u32> {
-    let (record, remainder) = split(input).map_err(Refusal::number)?;
-    let mut config = Lent::holding(record);
-    let k = check_program(&config.bytes, config.used);
-    accepted(k.number)?;
-    let mut store = values(remainder, k.k).map_err(Refusal::number)?;
+    let (mut config, mut store) = load(input).map_err(Refusal::number)?;
     let mut term = start_term(&config, &store)?;
     let stepper = run_stepper(&mut config.bytes, config.used, &mut store, BUDGET);
     accepted(stepper.number)?;
     let reducer = run_reducer(&mut term.bytes, term.used, BUDGET);
     accepted(reducer.ran.number)?;
     Ok(shown(&stepper, &reducer.ran, &store))
+}
+
+/// The program in its buffer, and its start store: the rows of the input, of the record, and of the store.
+fn load(input: &[u8]) -> Result<(Lent, Vec<u32>), Refusal> {
+    let (record, remainder) = split(input)?;
+    let config = Lent::holding(record);
+    let program: Program = check::lent_within(&config.bytes, config.used)?;
+    let store = values(remainder, program.header.k)?;
+    check::values(program.header, &store)?;
+    Ok((config, store))
 }
 
 impl Lent {

@@ -77,13 +77,39 @@ impl<const N: usize> Counts<N> {
         self.0[sort].fetch_add(count, Ordering::Relaxed);
     }
 
+    fn counts(&self) -> [u32; N] {
+        self.0.each_ref().map(|count| count.load(Ordering::Relaxed))
+    }
+
     /// Fails unless each sort was come upon at least so often.
     pub fn assert_at_least(&self, least: [u32; N]) {
-        let counts = self.0.each_ref().map(|count| count.load(Ordering::Relaxed));
+        let counts = self.counts();
         let enough = counts
             .iter()
             .zip(least)
             .all(|(count, least)| *count >= least);
         assert!(enough, "only {counts:?} cases of {least:?}");
+    }
+}
+
+/// The largest number of a refusal.
+const NUMBERS: usize = 16;
+
+/// Counts the numbers that calls answer: 0 where they accept, or a refusal's.
+#[derive(Default)]
+pub struct Rows(Counts<{ NUMBERS + 1 }>);
+
+impl Rows {
+    pub fn one(&self, number: u32) {
+        self.0.one(number as usize);
+    }
+
+    /// Fails unless each of these numbers was answered at least so often.
+    pub fn assert_at_least(&self, least: &[(usize, u32)]) {
+        let counts = self.0.counts();
+        let enough = least
+            .iter()
+            .all(|(number, least)| counts[*number] >= *least);
+        assert!(enough, "only {counts:?}, of {least:?}");
     }
 }

@@ -3,11 +3,13 @@
 use crate::translate::all;
 use crate::tree::{Atom, Block, Bound, Command, Expr, Program, Simple, Term, TermRecord};
 
-/// The program whose translation the term is, if there is one (01, row 9, if not).
+/// The program whose translation the term is, if there is one (01, row 9, if not). Its header says what
+/// the term's does.
 pub fn read_back(record: &TermRecord) -> Option<Program> {
+    let header = record.header;
     Some(Program {
-        k: record.k,
-        block: block(record.k, &record.term)?,
+        header,
+        block: block(header.k, &record.term)?,
     })
 }
 

@@ -4,6 +4,8 @@ pub mod counting;
 pub mod reducer;
 pub mod stepper;
 
+use crate::tree::Value;
+
 /// How a run ends; the discriminant is the number that is handed over.
 #[derive(Clone, Copy, Debug, PartialEq, Eq)]
 pub enum Outcome {
@@ -24,9 +26,14 @@ impl Outcome {
 #[derive(Clone, Debug, PartialEq, Eq)]
 pub enum Answer<T> {
     Finished,
-    /// The next step would give 4,294,967,296.
+    /// The next step would give a value above the ceiling.
     Over,
     Next(T),
+}
+
+/// Plus one, unless that is above the ceiling (02, C-17). Above the largest value it always is.
+pub fn plus_one(value: Value, ceiling: Value) -> Option<Value> {
+    value.checked_add(1).filter(|next| *next <= ceiling)
 }
 
 /// An engine's state, as the run sees it.

@@ -112,7 +112,7 @@ pub struct Call {
 pub struct Measured {
     pub call: &'static str,
     pub limit: usize,
-    pub on: &'static str,
+    pub on: String,
     pub bytes: usize,
 }
 
@@ -122,7 +122,7 @@ pub fn measure() -> Vec<Measured> {
 }
 
 fn measure_call(call: &Call) -> Vec<Measured> {
-    let one = |(on, record): (&'static str, Vec<u8>)| {
+    let one = |(on, record): (String, Vec<u8>)| {
         let (mut slices, mut number) = (Slices::holding(&record), 0);
         let bytes = used_by(&mut || number = (call.library)(&mut slices));
         // A call that stops too early takes little stack and shows nothing.

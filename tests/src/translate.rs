@@ -2,11 +2,12 @@
 
 use crate::tree::{Atom, Block, Bound, Command, Expr, Program, Simple, Term, TermRecord};
 
-/// The translation of a program, with the same k.
+/// The translation of a program, with the same k, edition and ceiling.
 pub fn translate(program: &Program) -> TermRecord {
+    let header = program.header;
     TermRecord {
-        k: program.k,
-        term: block(program.k, &program.block),
+        header,
+        term: block(header.k, &program.block),
     }
 }
 

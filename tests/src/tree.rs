@@ -6,11 +6,62 @@ pub type Variable = u32;
 /// A value, 0 to 4,294,967,295 (01, "Records").
 pub type Value = u32;
 
-/// A program (01: tariff): the number of variables and the outermost block.
+/// What a header says: the number of variables, and the edition.
+#[derive(Clone, Copy, Debug, PartialEq, Eq)]
+pub struct Header {
+    pub k: u32,
+    pub edition: Edition,
+}
+
+/// The edition of a header (02, C-17).
+#[derive(Clone, Copy, Debug, PartialEq, Eq)]
+pub enum Edition {
+    First,
+    /// With this ceiling.
+    Second(Value),
+}
+
+impl Header {
+    /// Of edition 1.
+    pub fn first(k: u32) -> Header {
+        let edition = Edition::First;
+        Header { k, edition }
+    }
+
+    /// Of edition 2, with this ceiling.
+    pub fn second(k: u32, ceiling: Value) -> Header {
+        let edition = Edition::Second(ceiling);
+        Header { k, edition }
+    }
+
+    /// What no value may be above. An edition 1 header counts as the largest value.
+    pub fn ceiling(self) -> Value {
+        match self.edition {
+            Edition::First => Value::MAX,
+            Edition::Second(ceiling) => ceiling,
+        }
+    }
+}
+
+/// A program (01: tariff): its header and the outermost block.
 #[derive(Clone, Debug, PartialEq, Eq)]
 pub struct Program {
-    pub k: u32,
+    pub header: Header,
     pub block: Block,
+}
+
+impl Program {
+    /// Of edition 1.
+    pub fn new(k: u32, block: Block) -> Program {
+        let header = Header::first(k);
+        Program { header, block }
+    }
+
+    /// The same in edition 2, with this ceiling.
+    pub fn under(self, ceiling: Value) -> Program {
+        let header = Header::second(self.header.k, ceiling);
+        Program { header, ..self }
+    }
 }
 
 /// The commands of a block, in order, possibly none.
@@ -40,11 +91,25 @@ pub enum Bound {
     Variable(Variable),
 }
 
-/// A term with its header: the number of variables and the term.
+/// A term with its header.
 #[derive(Clone, Debug, PartialEq, Eq)]
 pub struct TermRecord {
-    pub k: u32,
+    pub header: Header,
     pub term: Term,
+}
+
+impl TermRecord {
+    /// Of edition 1.
+    pub fn new(k: u32, term: Term) -> TermRecord {
+        let header = Header::first(k);
+        TermRecord { header, term }
+    }
+
+    /// The same in edition 2, with this ceiling.
+    pub fn under(self, ceiling: Value) -> TermRecord {
+        let header = Header::second(self.header.k, ceiling);
+        TermRecord { header, ..self }
+    }
 }
 
 #[derive(Clone, Debug, PartialEq, Eq)]
@@ -74,6 +139,12 @@ pub enum Simple {
 }
 
 impl Simple {
+    pub fn atom(&self) -> &Atom {
+        match self {
+            Simple::Atom(atom) | Simple::Succ(atom) | Simple::Pred(atom) => atom,
+        }
+    }
+
     pub fn atom_mut(&mut self) -> &mut Atom {
         match self {
             Simple::Atom(atom) | Simple::Succ(atom) | Simple::Pred(atom) => atom,
@@ -150,8 +221,62 @@ pub fn atom_variable(atom: &Atom) -> Option<Variable> {
 }
 
 pub fn simple_variable(simple: &Simple) -> Option<Variable> {
-    match simple {
-        Simple::Atom(atom) | Simple::Succ(atom) | Simple::Pred(atom) => atom_variable(atom),
+    atom_variable(simple.atom())
+}
+
+/// Every literal of the program, in an expression or a bound, for row 15.
+pub fn program_literals(program: &Program) -> Vec<Value> {
+    let mut found = Vec::new();
+    block_literals(&program.block, &mut found);
+    found
+}
+
+fn block_literals(block: &Block, found: &mut Vec<Value>) {
+    for command in block {
+        match command {
+            Command::Assign(_, Expr::Literal(value)) => found.push(*value),
+            Command::Assign(..) => (),
+            Command::Loop(_, bound, body) => {
+                if let Bound::Literal(value) = bound {
+                    found.push(*value);
+                }
+                block_literals(body, found);
+            }
+            Command::Block(block) => block_literals(block, found),
+        }
+    }
+}
+
+/// Every numeral of the term, for row 15.
+pub fn term_numerals(term: &Term) -> Vec<Value> {
+    let mut found = Vec::new();
+    collect_numerals(term, &mut found);
+    found
+}
+
+fn collect_numerals(term: &Term, found: &mut Vec<Value>) {
+    match term {
+        Term::Tuple(atoms) => found.extend(atoms.iter().filter_map(atom_numeral)),
+        Term::LetOne(_, simple, last) => {
+            found.extend(atom_numeral(simple.atom()));
+            collect_numerals(last, found);
+        }
+        Term::LetAll(first, last) => {
+            collect_numerals(first, found);
+            collect_numerals(last, found);
+        }
+        Term::Rec(_, count, start, body) => {
+            found.extend(atom_numeral(count));
+            found.extend(start.iter().filter_map(atom_numeral));
+            collect_numerals(body, found);
+        }
+    }
+}
+
+fn atom_numeral(atom: &Atom) -> Option<Value> {
+    match atom {
+        Atom::Numeral(value) => Some(*value),
+        Atom::Variable(_) => None,
     }
 }
 

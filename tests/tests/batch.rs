@@ -200,7 +200,7 @@ fn with_jobs(batch: &Batch, jobs: &[Job]) -> Batch {
 #[test]
 fn each_answer_is_that_of_its_store_alone() {
     let (outcomes, sorts) = (Counts::<5>::default(), Counts::<5>::default());
-    cases(12_000, |random| {
+    cases(20_000, |random| {
         let mut batch = any_batch(random);
         let lent = batch.clone();
         let Written { number, used } = batch.clone().run(run_batch);

@@ -560,12 +560,12 @@ fn a_step_is_a_step_of_the_expansion() {
     let seen = Counts::<5>::default();
     cases(20_000, |random| {
         let program = shallow_program(random);
-        let spot = any_spot(random, &program.block);
+        let spot = any_spot(random, &program);
         let length = record_len(&program, &spot);
         if length > (ROOM - 12 * 440) as u64 {
             return;
         }
-        let mut counting = Counting::start(&program, &store(random, program.k));
+        let mut counting = Counting::start(&program, &store(random, program.header));
         counting.state = write(&spot, &program);
         let (buffer, used) = counting.expand();
         assert_eq!(used as u64, length);

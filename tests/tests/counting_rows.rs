@@ -36,7 +36,7 @@ impl Order {
             used: record.len(),
             buffer: record,
             state: START,
-            store: vec![3; program.k as usize],
+            store: vec![3; program.header.k as usize],
         }
     }
 

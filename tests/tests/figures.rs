@@ -141,7 +141,7 @@ fn p1_ends_with_an_empty_block_and_a_tuple_of_the_values() {
     let mut buffer = lend(&config.term().encode(), 400);
     run_reducer(&mut buffer, 172, 18);
     let tuple = Term::Tuple([7, 3, 10, 3].map(Atom::Numeral).to_vec());
-    let record = TermRecord { k: 4, term: tuple }.encode();
+    let record = TermRecord::new(4, tuple).encode();
     assert_eq!(buffer[..44], record);
     assert_eq!(buffer[44..], [0; 356]);
 }
@@ -153,7 +153,7 @@ fn p9_has_01s_bytes() {
         0x14, 0, 0x28, 0, 1, 0, 0, 0, 0x0C, 0, 0x24, 0, 8, 0, 0x21, 0, 1, 0, 0, 0,
     ];
     let block = vec![];
-    assert_eq!(Program { k: 1, block }.encode(), program);
+    assert_eq!(Program::new(1, block).encode(), program);
     let mut out = [0xA5; 24];
     let written = translate(&program, 12, &mut out);
     assert_eq!((written.number, written.used), (0, 20));

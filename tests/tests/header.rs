@@ -1,6 +1,6 @@
 //! The names and numbers of `include/vistrokk.h`, held to 01's table of refusals ("Where an order
 //! stops"), with 02's rows at their places, and to the outcomes, limits and answers that the other
-//! program has.
+//! program has; and the refusals of `docs/FORMAT.md`, held to the same.
 
 use std::fs;
 use std::path::Path;
@@ -10,8 +10,12 @@ use other::run::counting::words::STATE_WORDS;
 use other::run::Outcome;
 
 fn header() -> String {
-    let path = Path::new(env!("CARGO_MANIFEST_DIR")).join("../include/vistrokk.h");
-    fs::read_to_string(path).expect("the header")
+    read("../include/vistrokk.h")
+}
+
+fn read(name: &str) -> String {
+    let path = Path::new(env!("CARGO_MANIFEST_DIR")).join(name);
+    fs::read_to_string(path).expect("the file")
 }
 
 /// Every `NAME = NUMBER` of an enum of the header, without the prefix of the name.
@@ -43,7 +47,8 @@ fn in_capitals(name: impl std::fmt::Debug) -> String {
     capitals
 }
 
-/// In the table's order, which the header promises: 14 stands behind 1, 12 behind 5, and 11 and 13 behind 6.
+/// In the table's order, which the header promises: 14 stands behind 1, 12 and 15 behind 5, and 11, 13
+/// and 16 behind 6.
 #[test]
 fn the_refusals_have_their_numbers_in_the_order_of_the_table() {
     let mut wanted = vec![("ACCEPTED".to_string(), 0)];
@@ -55,9 +60,11 @@ fn the_refusals_have_their_numbers_in_the_order_of_the_table() {
         Refusal::Malformed,
         Refusal::BadVariable,
         Refusal::TooDeep,
+        Refusal::LiteralAboveCeiling,
         Refusal::BadStore,
         Refusal::BadRule,
         Refusal::BadState,
+        Refusal::ValueAboveCeiling,
         Refusal::FreeVariable,
         Refusal::Unfinished,
         Refusal::NoProgram,
@@ -65,6 +72,22 @@ fn the_refusals_have_their_numbers_in_the_order_of_the_table() {
     ];
     wanted.extend(refusals.map(|refusal| (in_capitals(refusal), refusal.number())));
     assert_eq!(enumerators(&header(), "vistrokk_refusal"), wanted);
+}
+
+/// The format's table, whose rows begin with number and name: the same, without what is accepted.
+#[test]
+fn the_format_lists_the_same_refusals() {
+    let format = read("../docs/FORMAT.md");
+    let (_, from) = format.split_once("\n## Refusals\n").expect("its part");
+    let (table, _) = from.split_once("\n| call |").expect("its end");
+    let row = |line: &str| {
+        let mut cells = line.strip_prefix("| ")?.split(" | ");
+        let number: u32 = cells.next()?.parse().ok()?;
+        let name = cells.next()?.trim_matches('`').to_string();
+        Some((name, number))
+    };
+    let listed: Vec<(String, u32)> = table.lines().filter_map(row).collect();
+    assert_eq!(listed, enumerators(&header(), "vistrokk_refusal")[1..]);
 }
 
 #[test]

@@ -28,13 +28,38 @@ fn read(path: PathBuf) -> (String, Vec<u8>, String) {
 #[test]
 fn the_folder_has_every_example_and_every_refusal() {
     let lines: Vec<String> = inputs().into_iter().map(|input| input.2).collect();
-    assert!(lines.len() >= 20);
+    assert!(lines.len() >= 30);
     let begins = |word: &str| lines.iter().any(|line| line.starts_with(word));
     for word in ["finished ", "over ", "noroom ", "spent "] {
         assert!(begins(word), "{word}");
     }
-    for number in [1, 2, 3, 4, 5, 6, 10] {
+    for number in [1, 2, 3, 4, 5, 15, 6, 16, 10] {
         assert!(begins(&format!("refused {number}\n")), "{number}");
+    }
+}
+
+/// Of edition 2 (02, C-17; kind 9) one input finishes, one stops over below the largest value, and each
+/// length from 8 to 11 bytes is refused as too short.
+#[test]
+fn the_folder_has_edition_2() {
+    let second: Vec<(Vec<u8>, String)> = inputs()
+        .into_iter()
+        .filter(|(_, bytes, _)| bytes.get(2..4) == Some(&[9, 0]))
+        .map(|(_, bytes, line)| (bytes, line))
+        .collect();
+    let has = |word: &str| second.iter().any(|(_, line)| line.starts_with(word));
+    for word in ["finished ", "over ", "refused 15\n", "refused 16\n"] {
+        assert!(has(word), "{word}");
+    }
+    let below = |line: &str| line.starts_with("over ") && !line.contains("4294967295");
+    assert!(second.iter().any(|(_, line)| below(line)));
+    for used in 8..12 {
+        let short = |bytes: &[u8]| bytes.starts_with(&[used, 0, 9, 0]);
+        let line = second
+            .iter()
+            .find(|(bytes, _)| short(bytes))
+            .map(|found| &found.1[..]);
+        assert_eq!(line, Some("refused 2\n"), "{used} bytes");
     }
 }
 

@@ -21,7 +21,7 @@ fn less_quotient(value: Value) -> Value {
 /// After each of them the reducer's term is the translation of what the stepper has.
 fn minus_one(value: Value) -> Value {
     let block = vec![Command::Assign(2, Expr::MinusOne(1))];
-    let program = Program { k: 2, block };
+    let program = Program::new(2, block);
     let mut store = [value, 9];
     let record = program.encode();
     let (mut steps, mut used) = (lend(&record, 40), record.len());

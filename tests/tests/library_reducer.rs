@@ -3,24 +3,24 @@
 
 use other::both::run_reducer;
 use other::calls::Reduced;
-use other::check::lent;
+use other::check::lent_within;
 use other::codec::Record;
-use other::examples::{examples, nest_of_loops, sample_terms, Example};
-use other::extremes::terms;
+use other::examples::{all_examples, nest_of_loops, sample_terms, Example};
+use other::extremes::{terms, EDITIONS};
 use other::generate::lend;
 use other::generate::lending::{
     closed, lent_budget, perhaps_damaged, room, sound_term, translatable_program, Lending,
 };
 use other::generate::programs::store;
 use other::generate::runs::{any_used, ends_within};
-use other::random::{cases, Counts, Random};
+use other::random::{cases, Counts, Random, Rows};
 use other::run::stepper::Config;
 use other::run::Machine;
 use other::substitute::{closed as is_closed, substitute, values_of};
 use other::tree::{with_big_stack, TermRecord};
 
-/// 01's examples with every budget from nothing to beyond their end, in every room from one byte
-/// less than the record to more than any of their states.
+/// 01's examples, also under ceilings, with every budget from nothing to beyond their end, in every
+/// room from one byte less than the record to more than any of their states.
 #[test]
 fn the_examples_in_every_room_with_every_budget() {
     let (seen, replaced) = (Counts::<5>::default(), Counts::<3>::default());
@@ -29,7 +29,7 @@ fn the_examples_in_every_room_with_every_budget() {
         store,
         steps,
         ..
-    } in examples()
+    } in all_examples()
     {
         let record = Config { program, store }.term().encode();
         for room in record.len() - 1..record.len() + 230 {
@@ -42,8 +42,8 @@ fn the_examples_in_every_room_with_every_budget() {
             }
         }
     }
-    seen.assert_at_least([50, 2_000, 400, 2_000, 2_000]);
-    replaced.assert_at_least([50, 2_000, 2_000]);
+    seen.assert_at_least([100, 4_000, 2_000, 4_000, 4_000]);
+    replaced.assert_at_least([100, 4_000, 4_000]);
 }
 
 /// 0: refused, so with a count of 0. 1: accepted, and nothing was replaced. 2: something was.
@@ -57,14 +57,14 @@ fn closed_term(random: &mut Random) -> TermRecord {
         return closed(random);
     }
     let program = translatable_program(random);
-    let store = store(random, program.k);
+    let store = store(random, program.header);
     Config { program, store }.term()
 }
 
 /// Terms, closed and open, buffers, used lengths and budgets of every sort.
 #[test]
 fn generated_runs() {
-    let (rows, outcomes) = (Counts::<8>::default(), Counts::<5>::default());
+    let (rows, outcomes) = (Rows::default(), Counts::<5>::default());
     let replaced = Counts::<3>::default();
     cases(60_000, |random| {
         let term = if random.one_in(6) {
@@ -73,19 +73,28 @@ fn generated_runs() {
             closed_term(random)
         };
         let Lending { mut buffer, used } = perhaps_damaged(random, &term.encode());
-        let ends = match lent::<TermRecord>(&buffer, used) {
+        let ends = match lent_within::<TermRecord>(&buffer, used) {
             Ok(term) if is_closed(&term.term) => ends_within(&term, buffer.len(), 2_000),
             // Refused, so any budget ends.
             _ => true,
         };
         let budget = lent_budget(random, ends);
         let reduced = run_reducer(&mut buffer, used, budget);
-        rows.one(reduced.ran.number as usize);
+        rows.one(reduced.ran.number);
         outcomes.one(reduced.ran.outcome as usize);
         replaced.one(sort(&reduced));
     });
-    rows.assert_at_least([10_000, 1_000, 1_000, 100, 500, 50, 0, 2_000]);
-    outcomes.assert_at_least([5_000, 5_000, 300, 5_000, 5_000]);
+    rows.assert_at_least(&[
+        (0, 10_000),
+        (1, 1_000),
+        (2, 1_000),
+        (3, 100),
+        (4, 500),
+        (5, 50),
+        (15, 50),
+    ]);
+    rows.assert_at_least(&[(7, 2_000)]);
+    outcomes.assert_at_least([5_000, 5_000, 1_000, 5_000, 5_000]);
     replaced.assert_at_least([5_000, 5_000, 5_000]);
 }
 
@@ -121,26 +130,37 @@ fn play(random: &mut Random, record: &[u8], room: usize, ends: bool, see: impl F
     }
 }
 
-/// Each byte of three terms at each of its 256 values; the two open ones with a store first.
+/// Each byte of four terms at each of its 256 values; the open ones with a store first.
 #[test]
 fn every_byte_at_every_value() {
-    let (seen, replaced) = (Counts::<8>::default(), Counts::<3>::default());
+    let (seen, replaced) = (Rows::default(), Counts::<3>::default());
     for bytes in sample_terms() {
         let mut term = TermRecord::decode(&bytes).expect("a term");
         let values = [3, 2, 1, u32::MAX];
-        substitute(&mut term.term, &values_of(&values[..term.k as usize]));
+        substitute(
+            &mut term.term,
+            &values_of(&values[..term.header.k as usize]),
+        );
         let bytes = term.encode();
         for place in 0..bytes.len() {
             for value in 0..=255 {
                 let mut buffer = lend(&bytes, 400);
                 buffer[place] = value;
                 let reduced = run_reducer(&mut buffer, bytes.len(), 25);
-                seen.one(reduced.ran.number as usize);
+                seen.one(reduced.ran.number);
                 replaced.one(sort(&reduced));
             }
         }
     }
-    seen.assert_at_least([5_000, 0, 1_000, 500, 10_000, 5_000, 0, 10]);
+    seen.assert_at_least(&[
+        (0, 5_000),
+        (2, 1_000),
+        (3, 500),
+        (4, 10_000),
+        (5, 5_000),
+        (15, 200),
+    ]);
+    seen.assert_at_least(&[(7, 10)]);
     replaced.assert_at_least([10_000, 100, 5_000]);
 }
 
@@ -178,8 +198,11 @@ fn a_long_run_in_pieces() {
 #[test]
 fn the_longest_terms() {
     with_big_stack(|| {
-        for (_, mut term) in terms() {
-            substitute(&mut term.term, &values_of(&[2; 16][..term.k as usize]));
+        for (_, mut term) in EDITIONS.into_iter().flat_map(terms) {
+            substitute(
+                &mut term.term,
+                &values_of(&[2; 16][..term.header.k as usize]),
+            );
             let record = term.encode();
             for (room, budget) in [(16_384, 0), (16_384, 3), (16_384, 5_000), (16_385, 1)] {
                 let mut buffer = lend(&record, room);

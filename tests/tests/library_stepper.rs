@@ -2,23 +2,23 @@
 //! which compares; `figures.rs`, `mistakes.rs` and `runs.rs` state what 01 says.
 
 use other::both::run_stepper;
-use other::check::lent;
+use other::check::{lent_within, values as within};
 use other::codec::Record;
-use other::examples::{examples, nest_of_loops, sample_programs, Example};
-use other::extremes::programs;
+use other::examples::{all_examples, nest_of_loops, sample_programs, Example};
+use other::extremes::{programs, EDITIONS};
 use other::generate::lend;
 use other::generate::lending::{
     lent_budget, lent_store, perhaps_damaged, room, sound_program, Lending,
 };
-use other::generate::programs::{store, wrong_store};
+use other::generate::programs::{refused_store, store};
 use other::generate::runs::{any_used, ends_within};
-use other::random::{cases, Counts, Random};
+use other::random::{cases, Counts, Random, Rows};
 use other::run::stepper::Config;
 use other::run::Machine;
 use other::tree::{with_big_stack, Program};
 
-/// 01's examples with every budget from nothing to beyond their end, in every room from one byte
-/// less than the record to more than any of their states.
+/// 01's examples, also under ceilings, with every budget from nothing to beyond their end, in every
+/// room from one byte less than the record to more than any of their states.
 #[test]
 fn the_examples_in_every_room_with_every_budget() {
     let seen = Counts::<5>::default();
@@ -27,7 +27,7 @@ fn the_examples_in_every_room_with_every_budget() {
         store,
         steps,
         ..
-    } in examples()
+    } in all_examples()
     {
         let record = program.encode();
         for room in record.len() - 1..record.len() + 110 {
@@ -39,16 +39,16 @@ fn the_examples_in_every_room_with_every_budget() {
             }
         }
     }
-    seen.assert_at_least([50, 1_000, 200, 1_000, 1_000]);
+    seen.assert_at_least([100, 2_000, 1_000, 2_000, 2_000]);
 }
 
 /// Programs, stores, buffers, used lengths and budgets of every sort.
 #[test]
 fn generated_runs() {
-    let (rows, outcomes) = (Counts::<7>::default(), Counts::<5>::default());
+    let (rows, outcomes) = (Rows::default(), Counts::<5>::default());
     cases(60_000, |random| {
         let program = sound_program(random);
-        let mut values = lent_store(random, program.k);
+        let mut values = lent_store(random, program.header);
         let Lending { mut buffer, used } = perhaps_damaged(random, &program.encode());
         let budget = match start(&buffer, used, &values) {
             Some(config) => lent_budget(random, ends_within(&config, buffer.len(), 2_000)),
@@ -56,19 +56,29 @@ fn generated_runs() {
             None => lent_budget(random, true),
         };
         let ran = run_stepper(&mut buffer, used, &mut values, budget);
-        rows.one(ran.number as usize);
+        rows.one(ran.number);
         outcomes.one(ran.outcome as usize);
     });
-    rows.assert_at_least([10_000, 1_000, 1_000, 100, 500, 50, 2_000]);
-    outcomes.assert_at_least([5_000, 5_000, 300, 5_000, 5_000]);
+    rows.assert_at_least(&[
+        (0, 10_000),
+        (1, 1_000),
+        (2, 1_000),
+        (3, 100),
+        (4, 500),
+        (5, 50),
+        (15, 50),
+    ]);
+    rows.assert_at_least(&[(6, 2_000), (16, 1_000)]);
+    outcomes.assert_at_least([5_000, 5_000, 700, 3_000, 5_000]);
 }
 
 /// What is lent, where it is a program with a value for each variable. A changed bit may have made
 /// a loop that goes on for long of one that did not.
 fn start(buffer: &[u8], used: usize, values: &[u32]) -> Option<Config> {
-    let program: Program = lent(buffer, used).ok()?;
+    let program: Program = lent_within(buffer, used).ok()?;
     let store = values.to_vec();
-    (store.len() == program.k as usize).then_some(Config { program, store })
+    let taken = store.len() == program.header.k as usize && within(program.header, values).is_ok();
+    taken.then_some(Config { program, store })
 }
 
 /// Lists of runs, each on what the last one left, refused ones among them. The room for most is
@@ -78,13 +88,13 @@ fn lists_of_runs() {
     let seen = Counts::<5>::default();
     cases(12_000, |random| {
         let program = sound_program(random);
-        let store = store(random, program.k);
+        let store = store(random, program.header);
         let config = Config { program, store };
         let room = room(random, config.state_len());
         let ends = ends_within(&config, room, 2_000);
         play(random, config, room, ends, &seen);
     });
-    seen.assert_at_least([5_000, 5_000, 500, 5_000, 3_000]);
+    seen.assert_at_least([5_000, 5_000, 1_000, 5_000, 3_000]);
 }
 
 fn play(random: &mut Random, config: Config, room: usize, ends: bool, seen: &Counts<5>) {
@@ -95,7 +105,7 @@ fn play(random: &mut Random, config: Config, room: usize, ends: bool, seen: &Cou
         let budget = lent_budget(random, ends);
         let ran = match random.below(10) {
             0 => {
-                let mut values = wrong_store(random, config.program.k);
+                let mut values = refused_store(random, config.program.header);
                 run_stepper(&mut buffer, used, &mut values, budget)
             }
             1 => {
@@ -111,10 +121,10 @@ fn play(random: &mut Random, config: Config, room: usize, ends: bool, seen: &Cou
     }
 }
 
-/// Each byte of two programs at each of its 256 values.
+/// Each byte of three programs at each of its 256 values.
 #[test]
 fn every_byte_at_every_value() {
-    let seen = Counts::<7>::default();
+    let seen = Rows::default();
     for bytes in sample_programs() {
         for place in 0..bytes.len() {
             for value in 0..=255 {
@@ -123,11 +133,19 @@ fn every_byte_at_every_value() {
                 let mut values = [3, 2, 1, u32::MAX];
                 let k = usize::from(bytes[4]);
                 let ran = run_stepper(&mut buffer, bytes.len(), &mut values[..k], 25);
-                seen.one(ran.number as usize);
+                seen.one(ran.number);
             }
         }
     }
-    seen.assert_at_least([2_000, 0, 1_000, 500, 10_000, 5_000, 10]);
+    seen.assert_at_least(&[
+        (0, 2_000),
+        (2, 1_000),
+        (3, 500),
+        (4, 10_000),
+        (5, 5_000),
+        (15, 200),
+    ]);
+    seen.assert_at_least(&[(6, 10)]);
 }
 
 /// Four loops of nine turns within each other, in one run and in runs of any length. A loop of n
@@ -153,9 +171,9 @@ fn a_long_run_in_pieces() {
 #[test]
 fn the_longest_programs() {
     with_big_stack(|| {
-        for (_, program) in programs() {
+        for (_, program) in EDITIONS.into_iter().flat_map(programs) {
             let record = program.encode();
-            let k = program.k as usize;
+            let k = program.header.k as usize;
             for (room, budget) in [(16_384, 0), (16_384, 3), (16_384, 20_000), (16_385, 1)] {
                 let room = room.max(record.len());
                 let mut buffer = lend(&record, room);

@@ -3,9 +3,13 @@
 
 use std::cmp::Ordering;
 
-use other::both::{run_counting, run_reducer, run_stepper, substitute, translate, weigh};
+use other::both::{
+    run_batch, run_counting, run_reducer, run_stepper, substitute, translate, weigh,
+};
 use other::check::{self, Refusal};
 use other::codec::Record;
+use other::examples::program as program_of;
+use other::generate::batches::{job, Batch};
 use other::generate::lend;
 use other::generate::programs::program;
 use other::random::{cases, Counts, Random};
@@ -132,41 +136,77 @@ fn generated_weights() {
     ]);
 }
 
-/// 02, C-11: the engines take the store either gives, where it has k values; also that of a load whose
-/// tare is larger (02, C-15). The counting stepper takes no program that is nested too deep.
+/// 02, C-11 and C-17: the engines take the store either rule gives, where it has k values and these are
+/// within the ceiling; also that of a load whose tare is larger (02, C-15). Else it is 16. The counting
+/// stepper takes no program that is nested too deep.
 #[test]
-fn the_engines_take_a_weighed_store() {
-    let seen = Counts::<6>::default();
-    cases(2_000, |random| {
+fn the_engines_take_a_weighed_store_within_the_ceiling() {
+    // Taken: by rule 1 and 2, tare larger or not; above the ceiling, likewise; with a term; counted.
+    let seen = Counts::<10>::default();
+    cases(4_000, |random| {
         let program = program(random, 300);
         let record = program.encode();
-        let mut store = vec![random.word(); program.k as usize];
+        let mut store = vec![random.word(); program.header.k as usize];
         let rule = 1 + random.below(2) as u32;
         let gross = random.word() >> random.below(32);
         let tare = weight(random, gross);
+        // The weighing itself knows no ceiling.
         assert_eq!(weigh(rule, gross, tare, &mut store), 0);
-        seen.one(2 * (rule as usize - 1) + usize::from(tare > gross));
+        let above = store.iter().any(|value| *value > program.header.ceiling());
+        let wanted = if above { 16 } else { 0 };
+        let sort = 2 * (rule as usize - 1) + usize::from(tare > gross);
+        seen.one(sort + if above { 4 } else { 0 });
 
         let mut term = vec![0; 16_384];
         let written = translate(&record, record.len(), &mut term);
         if written.number == 0 {
-            seen.one(4);
-            let written = substitute(&mut term, written.used as usize, &store);
-            assert_eq!(written.number, 0);
-            let ran = run_reducer(&mut term, written.used as usize, 50);
-            assert_eq!(ran.ran.number, 0);
+            seen.one(8);
+            let used = written.used as usize;
+            assert_eq!(substitute(&mut term, used, &store).number, wanted);
+            if !above {
+                assert_eq!(run_reducer(&mut term, used, 50).ran.number, 0);
+            }
+            let mut batch = Batch::of(&record, &[job(&store, 50)]);
+            assert_eq!(batch.run(run_batch).number, wanted);
         }
         if check::depth(&program).is_ok() {
-            seen.one(5);
+            seen.one(9);
             let (mut state, mut store) = ([0; STATE_WORDS], store.clone());
             let counted = run_counting(&record, record.len(), &mut state, &mut store, 50);
-            assert_eq!(counted.number, 0);
+            assert_eq!(counted.number, wanted);
         }
         let mut buffer = lend(&record, record.len() + 500);
-        assert_eq!(
-            run_stepper(&mut buffer, record.len(), &mut store, 50).number,
-            0
-        );
+        let ran = run_stepper(&mut buffer, record.len(), &mut store, 50);
+        assert_eq!(ran.number, wanted);
     });
-    seen.assert_at_least([300, 300, 300, 300, 1_500, 1_500]);
+    seen.assert_at_least([500, 500, 500, 500, 50, 90, 50, 90, 3_000, 3_000]);
+}
+
+/// The count at the ceiling and one above it, by both rules; and variable 2's 1, which is above a
+/// ceiling of 0 also where the count is 0, unless there is no variable 2.
+#[test]
+fn a_weighed_value_at_the_ceiling_and_one_above_it() {
+    let number = |k: u32, ceiling, rule, gross, tare| {
+        let record = program_of(k, vec![]).under(ceiling).encode();
+        let mut store = vec![77; k as usize];
+        assert_eq!(weigh(rule, gross, tare, &mut store), 0);
+        let mut buffer = lend(&record, 40);
+        run_stepper(&mut buffer, record.len(), &mut store, 5).number
+    };
+    // 130 kg are 6 by rule 1 and 7 by rule 2.
+    for (ceiling, by_1, by_2) in [(7, 0, 0), (6, 0, 16), (5, 16, 16)] {
+        for k in [1, 2, 16] {
+            assert_eq!(number(k, ceiling, 1, 1_500, 1_370), by_1);
+            assert_eq!(number(k, ceiling, 2, 1_500, 1_370), by_2);
+            assert_eq!(number(k, ceiling, 1, 1_370, 1_500), by_1);
+            assert_eq!(number(k, ceiling, 2, 1_370, 1_500), by_2);
+        }
+    }
+    for k in [2, 3, 16] {
+        assert_eq!(number(k, 0, 1, 1_500, 1_500), 0);
+        assert_eq!(number(k, 0, 1, 1_501, 1_500), 0);
+        assert_eq!(number(k, 0, 1, 1_500, 1_501), 16);
+        assert_eq!(number(k, 1, 1, 1_500, 1_501), 0);
+    }
+    assert_eq!(number(1, 0, 1, 1_500, 1_501), 0);
 }

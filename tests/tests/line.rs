@@ -73,7 +73,7 @@ fn a_remainder_of_other_length() {
     }
 }
 
-/// Rows 2 to 5 of the record come before the remainder is looked at.
+/// Rows 2 to 5 and 15 of the record come before the remainder is looked at.
 #[test]
 fn rows_of_the_record() {
     let sound = add_on(7, 3);
@@ -96,6 +96,81 @@ fn rows_of_the_record() {
     assert_eq!(with(60, 5), "refused 5");
     // The first length names the record, so a shorter one cuts the block short.
     assert_eq!(with(0, 63), "refused 4");
+    // Of edition 2, whose ceiling would be the block's head, 65,592; then no block is left.
+    assert_eq!(with(2, 9), "refused 4");
+}
+
+/// k = 2, {x1 := 6; x1 := x1 + 1} under a ceiling: 48 bytes, the literal at 28 and the second
+/// assignment's variable at 36.
+fn six_and_one(ceiling: u32, store: &[u32]) -> Vec<u8> {
+    let six = Command::Assign(1, Expr::Literal(6));
+    let block = vec![six, Command::Assign(1, Expr::PlusOne(1))];
+    input(&program(2, block).under(ceiling), store)
+}
+
+/// Edition 2 (02, C-17). A ceiling of 7 is just enough; 6 is for the literal, but not for its sum; 5 is
+/// not for the literal, which is 15. Then the values: one above the ceiling is 16.
+#[test]
+fn a_program_under_a_ceiling() {
+    assert_eq!(line(&six_and_one(7, &[7, 0])), "finished 3 finished 3 7 0");
+    assert_eq!(line(&six_and_one(6, &[6, 6])), "over 1 over 1 6 6");
+    assert_eq!(line(&six_and_one(5, &[5, 5])), "refused 15");
+    assert_eq!(line(&six_and_one(7, &[8, 0])), "refused 16");
+    assert_eq!(line(&six_and_one(7, &[0, 8])), "refused 16");
+    assert_eq!(
+        line(&six_and_one(u32::MAX, &[0, u32::MAX])),
+        "finished 3 finished 3 7 4294967295"
+    );
+}
+
+/// 2 for a header of 8 to 11 bytes, whatever k is; then 3, 4 and 5; 15 before 6, and 6 before 16.
+#[test]
+fn the_rows_of_edition_2_in_order() {
+    for used in 8..12 {
+        for k in [2, 0, 17] {
+            let mut bytes = six_and_one(5, &[9, 9]);
+            (bytes[0], bytes[4]) = (used, k);
+            bytes.truncate(usize::from(used));
+            assert_eq!(line(&bytes), "refused 2", "{used} bytes");
+            // What follows is the remainder, and not looked at.
+            bytes.extend([0; 8]);
+            assert_eq!(line(&bytes), "refused 2", "{used} bytes");
+        }
+    }
+    // With the ceiling there and no block, 4; and k before that.
+    let mut bytes = six_and_one(5, &[9, 9]);
+    bytes[0] = 12;
+    assert_eq!(line(&bytes), "refused 4");
+    bytes[4] = 17;
+    assert_eq!(line(&bytes), "refused 3");
+    let mut bytes = six_and_one(5, &[9, 9]);
+    let short = bytes.len() - 1;
+    assert_eq!(line(&bytes[..short]), "refused 15");
+    bytes[36] = 3;
+    assert_eq!(line(&bytes[..short]), "refused 5");
+    bytes[42] = 20; // The kind of the last expression.
+    assert_eq!(line(&bytes[..short]), "refused 4");
+    let bytes = six_and_one(6, &[9, 9]);
+    assert_eq!(line(&bytes[..short]), "refused 6");
+    assert_eq!(line(&bytes), "refused 16");
+}
+
+/// 16 before 10: 120 blocks at k = 16 have a term that is too long. In edition 2 it has 4 bytes more:
+/// 119 blocks have 16,328, which fit.
+#[test]
+fn a_value_above_before_a_term_that_does_not_fit() {
+    with_big_stack(|| {
+        let blocks = |count| row_of_blocks(16, count).under(4);
+        let (mut values, zeros) = ([0; 16], " 0".repeat(15));
+        values[15] = 4;
+        assert_eq!(line(&input(&blocks(120), &values)), "refused 10");
+        let wanted = format!("finished 119 finished 119{zeros} 4");
+        assert_eq!(line(&input(&blocks(119), &values)), wanted);
+        values[15] = 5;
+        assert_eq!(line(&input(&blocks(120), &values)), "refused 16");
+        assert_eq!(line(&input(&blocks(119), &values)), "refused 16");
+        assert_eq!(line(&input(&blocks(120), &values[1..])), "refused 6");
+    });
 }
 
 /// 119 empty blocks at k = 16 have a term of 16,324 bytes; 120 have one of 16,460. Refusal 6 comes
@@ -181,7 +256,8 @@ fn any_input_has_its_line() {
     cases(2_000, |random| {
         let limit = 12 + random.below(200);
         let program = generated_program(random, limit);
-        let mut bytes = input(&program, &vec![1; program.k as usize]);
+        let small = program.header.ceiling().min(1);
+        let mut bytes = input(&program, &vec![small; program.header.k as usize]);
         for _ in 0..random.below(3) {
             let place = random.below(bytes.len());
             bytes[place] ^= 1 << random.below(8);
@@ -189,7 +265,7 @@ fn any_input_has_its_line() {
         let printed = line(&bytes);
         let words: Vec<&str> = printed.split(' ').collect();
         if words[0] == "refused" {
-            assert!(["1", "2", "3", "4", "5", "6", "10"].contains(&words[1]));
+            assert!(["1", "2", "3", "4", "5", "15", "6", "16", "10"].contains(&words[1]));
             assert_eq!(words.len(), 2);
         } else {
             assert_eq!(words.len(), 4 + usize::from(bytes[4]), "{printed}");

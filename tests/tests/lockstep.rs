@@ -3,8 +3,9 @@
 
 use other::both::{check_program, run_reducer, run_stepper, substitute, translate};
 use other::calls::{Ran, Reduced};
+use other::check::values as within;
 use other::codec::{hex, Record};
-use other::examples::examples;
+use other::examples::all_examples;
 use other::generate::lend;
 use other::generate::programs::store;
 use other::generate::runs::{ends_within, runs, Budget, Engine, Run};
@@ -12,8 +13,8 @@ use other::generate::terms::{translation, SHORTEST};
 use other::random::{cases, Counts, Random};
 use other::run::reducer::finished_values;
 use other::run::stepper::Config;
-use other::run::{next_state, Answer, Machine};
-use other::tree::{Program, TermRecord};
+use other::run::{next_state, Answer, Machine, Outcome};
+use other::tree::{Edition, Header, Program, TermRecord};
 
 /// What belongs to one engine: its buffer as its last run left it, the used length that its last
 /// accepted run gave, and the steps that its runs returned.
@@ -24,7 +25,7 @@ struct Side {
 }
 
 struct World {
-    k: u32,
+    header: Header,
     stepper: Side,
     store: Vec<u32>,
     reducer: Side,
@@ -38,6 +39,7 @@ struct Seen {
     met_later: u32,
     finished: u32,
     over: u32,
+    over_in_edition_2: u32,
     refused: u32,
 }
 
@@ -57,8 +59,11 @@ impl World {
     fn start(config: &Config, room: usize, other_room: usize) -> World {
         let program = config.program.encode();
         let stepper = lend(&program, room);
-        let checked = check_program(&stepper, program.len());
-        assert_eq!(checked.number, 0);
+        let (header, checked) = (
+            config.program.header,
+            check_program(&stepper, program.len()),
+        );
+        assert_eq!((checked.number, checked.k), (0, header.k));
         let mut out = vec![0; other_room];
         let term = translate(&stepper, program.len(), &mut out).used as usize;
         assert_eq!(substitute(&mut out, term, &config.store).number, 0);
@@ -68,7 +73,7 @@ impl World {
             total: 0,
         };
         World {
-            k: checked.k,
+            header,
             stepper: side(stepper, program.len()),
             store: config.store.clone(),
             reducer: side(lend(&out[..term], other_room), term),
@@ -89,7 +94,8 @@ impl World {
         let mut store = run.store.clone().unwrap_or(self.store.clone());
         let before = (self.stepper.buffer.clone(), store.clone());
         let ran = run_stepper(&mut self.stepper.buffer, used, &mut store, budget);
-        let wrong = used != self.stepper.used || store.len() != self.k as usize;
+        let taken = store.len() == self.header.k as usize && within(self.header, &store).is_ok();
+        let wrong = used != self.stepper.used || !taken;
         if wrong {
             let after = (self.stepper.buffer.clone(), store.clone());
             self.refused(&ran, before == after);
@@ -149,7 +155,28 @@ impl World {
         }
         self.seen.met += 1;
         self.seen.met_later += u32::from(self.stepper.total > 0);
-        self.seen.over += u32::from(stands == Answer::Over);
+        let (over, second) = (
+            stands == Answer::Over,
+            self.header.edition != Edition::First,
+        );
+        self.seen.over += u32::from(over);
+        self.seen.over_in_edition_2 += u32::from(over && second);
+    }
+
+    /// What each engine's state says, without a step.
+    fn outcomes(&mut self) -> [u32; 2] {
+        let World {
+            stepper,
+            store,
+            reducer,
+            ..
+        } = self;
+        [
+            run_stepper(&mut stepper.buffer, stepper.used, store, 0).outcome,
+            run_reducer(&mut reducer.buffer, reducer.used, 0)
+                .ran
+                .outcome,
+        ]
     }
 }
 
@@ -173,14 +200,14 @@ fn generated(random: &mut Random) -> (World, Vec<Run>) {
     let most = *random.pick(&[300, 300, 300, 300, 4_000]);
     let limit = SHORTEST + random.below(most);
     let (program, _) = translation(random, limit);
-    let store = store(random, program.k);
+    let store = store(random, program.header);
     let config = Config { program, store };
     let extra = *random.pick(&[1, 100, 400, 1_500]);
     let room = some_room(random, config.state_len(), extra);
     let term = config.term();
     let other_room = some_room(random, term.state_len(), 4 * extra);
     let ends = ends_within(&config, room, 3_000) && ends_within(&term, other_room, 3_000);
-    let list = runs(random, config.program.k, ends);
+    let list = runs(random, config.program.header, ends);
     (World::start(&config, room, other_room), list)
 }
 
@@ -208,19 +235,67 @@ fn totals_that_agree_have_states_that_agree() {
             met_later,
             finished,
             over,
+            over_in_edition_2,
             refused,
         } = world.seen;
-        for (sort, count) in [met, met_later, finished, over, refused].iter().enumerate() {
+        let counts = [met, met_later, finished, over, over_in_edition_2, refused];
+        for (sort, count) in counts.iter().enumerate() {
             seen.add(sort, *count);
         }
     });
-    seen.assert_at_least([12_000, 4_500, 3_000, 150, 3_000]);
+    seen.assert_at_least([12_000, 4_500, 3_000, 500, 400, 3_000]);
+}
+
+/// 02, C-17: where neither runs out of room or budget, one stops for the ceiling exactly when the other
+/// does, and at the same total. After a list of runs, and again when each has had as many steps as it
+/// may make.
+#[test]
+fn both_stop_for_the_ceiling_or_neither_does() {
+    // Stopped both: finished; over in edition 1; over in edition 2, with steps made. Not so: one of
+    // them or both have no room, or have a further step to make.
+    let seen = Counts::<4>::default();
+    cases(12_000, |random| {
+        let (mut world, list) = generated(random);
+        for run in &list {
+            world.play(run);
+        }
+        stop_together(&mut world, &seen);
+        for engine in [Engine::Stepper, Engine::Reducer] {
+            let budget = Budget::Exactly(3_000);
+            world.play(&Run {
+                budget,
+                ..single(engine)
+            });
+        }
+        stop_together(&mut world, &seen);
+    });
+    seen.assert_at_least([4_000, 100, 500, 4_000]);
+}
+
+fn stop_together(world: &mut World, seen: &Counts<4>) {
+    let outcomes = world.outcomes();
+    let stopped = |outcome: &u32| {
+        [Outcome::Finished, Outcome::Over]
+            .map(Outcome::number)
+            .contains(outcome)
+    };
+    if !outcomes.iter().all(stopped) {
+        return seen.one(3);
+    }
+    assert_eq!(outcomes[0], outcomes[1]);
+    assert_eq!(world.stepper.total, world.reducer.total);
+    let over = outcomes[0] == Outcome::Over.number();
+    match (over, world.header.edition) {
+        (false, _) => seen.one(0),
+        (true, Edition::First) => seen.one(1),
+        (true, Edition::Second(_)) => seen.add(2, u32::from(world.stepper.total > 0)),
+    }
 }
 
 /// Step by step through the examples: one step of each engine at a time, compared at every total.
 #[test]
 fn the_examples_in_single_steps() {
-    for example in examples() {
+    for example in all_examples() {
         let (program, store) = (example.program, example.store);
         let mut world = World::start(&Config { program, store }, 1_000, 1_000);
         for _ in 0..=example.steps {

@@ -9,15 +9,15 @@ use other::calls::{Counted, Ran};
 use other::check::depth;
 use other::codec::Record;
 use other::generate::lend;
-use other::generate::programs::{store, wrong_store};
+use other::generate::programs::{refused_store, store};
 use other::generate::runs::any_used;
 use other::generate::terms::{translation, SHORTEST};
 use other::random::{cases, Counts, Random};
 use other::run::counting::words::{Words, STATE_WORDS};
 use other::run::reducer::finished_values;
 use other::run::stepper::Config;
-use other::run::{next_state, Answer, Machine};
-use other::tree::{Program, TermRecord};
+use other::run::{next_state, Answer, Machine, Outcome};
+use other::tree::{Edition, Header, Program, TermRecord};
 
 /// An engine that writes a buffer: that, its used length, and the steps that its runs returned.
 struct Side {
@@ -36,6 +36,7 @@ impl Side {
 }
 
 struct World {
+    header: Header,
     program: Vec<u8>,
     old: Side,
     old_store: Vec<u32>,
@@ -54,7 +55,8 @@ const REFUSED: usize = 4;
 const STEPPERS_MET: usize = 5;
 const WENT_BACK: usize = 6;
 const BACK_AND_MET: usize = 7;
-type Seen = Counts<8>;
+const OVER_IN_EDITION_2: usize = 8;
+type Seen = Counts<9>;
 
 impl World {
     fn start(config: &Config, rooms: [usize; 2]) -> World {
@@ -63,6 +65,7 @@ impl World {
         let used = translate(&program, program.len(), &mut term).used as usize;
         assert_eq!(substitute(&mut term, used, &config.store).number, 0);
         World {
+            header: config.program.header,
             old: Side {
                 buffer: lend(&program, rooms[0]),
                 used: program.len(),
@@ -106,7 +109,7 @@ impl World {
     fn order_old(&mut self, random: &mut Random, budget: u32, wrong: bool) {
         let Side { buffer, used, .. } = &mut self.old;
         let ran = if wrong {
-            let mut values = wrong_store(random, self.old_store.len() as u32);
+            let mut values = refused_store(random, self.header);
             run_stepper(buffer, *used, &mut values, budget)
         } else {
             run_stepper(buffer, *used, &mut self.old_store, budget)
@@ -117,10 +120,19 @@ impl World {
 
     fn order_counting(&mut self, random: &mut Random, budget: u32, wrong: bool) {
         let own = self.program.len();
-        let used = if wrong { other_used(random, own) } else { own };
         let (before, values) = (self.state, self.store.clone());
-        let state = &mut self.state;
-        let counted = run_counting(&self.program, used, state, &mut self.store, budget);
+        let (program, state) = (&self.program, &mut self.state);
+        let counted = match (wrong, random.one_in(2)) {
+            (false, _) => run_counting(program, own, state, &mut self.store, budget),
+            (true, false) => {
+                let used = other_used(random, own);
+                run_counting(program, used, state, &mut self.store, budget)
+            }
+            (true, true) => {
+                let mut values = refused_store(random, self.header);
+                run_counting(program, own, state, &mut values, budget)
+            }
+        };
         assert_eq!(counted.number != 0, wrong);
         if wrong {
             assert_eq!(counted, Counted::refused(counted.number));
@@ -210,7 +222,31 @@ impl World {
         }
         seen.one(MET);
         seen.add(MET_LATER, u32::from(self.reducer.total > 0));
-        seen.add(OVER, u32::from(stands == Answer::Over));
+        let (over, second) = (
+            stands == Answer::Over,
+            self.header.edition != Edition::First,
+        );
+        seen.add(OVER, u32::from(over));
+        seen.add(OVER_IN_EDITION_2, u32::from(over && second));
+    }
+
+    /// What the state of either stepper and of the reducer says, without a step, and the totals.
+    fn stands(&mut self) -> [(u32, u32); 3] {
+        let Side {
+            buffer,
+            used,
+            total,
+        } = &mut self.old;
+        let old = run_stepper(buffer, *used, &mut self.old_store, 0).outcome;
+        let (program, state) = (&self.program, &mut self.state);
+        let counting = run_counting(program, program.len(), state, &mut self.store, 0).outcome;
+        let Side { buffer, used, .. } = &mut self.reducer;
+        let reducer = run_reducer(buffer, *used, 0).ran.outcome;
+        [
+            (old, *total),
+            (counting, self.total),
+            (reducer, self.reducer.total),
+        ]
     }
 }
 
@@ -240,7 +276,7 @@ fn generated(random: &mut Random) -> World {
         if depth(&program).is_err() {
             continue;
         }
-        let store = store(random, program.k);
+        let store = store(random, program.header);
         let config = Config { program, store };
         let extra = *random.pick(&[1, 100, 400, 1_500]);
         let room = config.state_len() + random.below(extra);
@@ -271,5 +307,43 @@ fn totals_that_agree_have_states_that_agree() {
             seen.add(BACK_AND_MET, u32::from(back && level));
         }
     });
-    seen.assert_at_least([30_000, 10_000, 5_000, 500, 5_000, 10_000, 1_000, 1_000]);
+    seen.assert_at_least([
+        30_000, 10_000, 5_000, 1_000, 5_000, 10_000, 1_000, 1_000, 500,
+    ]);
+}
+
+/// 02, C-17, of either stepper: where neither it nor the reducer runs out of room or budget, one stops
+/// for the ceiling exactly when the other does, and at the same total. The counting stepper never lacks
+/// room.
+#[test]
+fn all_stop_for_the_ceiling_or_none_does() {
+    // Of pairs that have stopped, of the old stepper and of the counting one: finished; over in edition
+    // 2, with steps made.
+    let seen = Counts::<4>::default();
+    let orders = Seen::default();
+    cases(8_000, |random| {
+        let mut world = generated(random);
+        for _ in 0..random.below(12) {
+            world.order(random, &orders);
+        }
+        world.order_old(random, 2_000, false);
+        world.order_counting(random, 2_000, false);
+        world.order_reducer(random, 2_000, false);
+        let second = world.header.edition != Edition::First;
+        let [old, counting, reducer] = world.stands();
+        for (stepper, (outcome, total)) in [old, counting].into_iter().enumerate() {
+            if !stopped(outcome) || !stopped(reducer.0) {
+                continue;
+            }
+            assert_eq!((outcome, total), reducer);
+            let over = outcome == Outcome::Over.number();
+            seen.add(2 * stepper, u32::from(!over));
+            seen.add(2 * stepper + 1, u32::from(over && second && total > 0));
+        }
+    });
+    seen.assert_at_least([2_000, 200, 2_000, 200]);
+}
+
+fn stopped(outcome: u32) -> bool {
+    outcome == Outcome::Finished.number() || outcome == Outcome::Over.number()
 }

@@ -1,12 +1,14 @@
 //! 01's "Mistakes that pass a quick trial", and those that 02's count of replaced variables (C-13), its
-//! loops carried as counts (C-14) and its batches (C-16) leave room for, each with the value that the rules
-//! give.
+//! loops carried as counts (C-14), its batches (C-16) and its ceilings (C-17) leave room for, each with the
+//! value that the rules give.
 
 use other::both::{
-    expand, run_batch, run_counting, run_reducer, run_stepper, substitute as substitute_over_bytes,
+    check_program, check_term, expand, read_back as read_back_over_bytes, result, run_batch,
+    run_counting, run_reducer, run_stepper, substitute as substitute_over_bytes,
+    translate as translate_over_bytes,
 };
 use other::codec::Record;
-use other::examples::{add, nest_of_blocks, nest_of_loops, program};
+use other::examples::{add, nest_of_blocks, nest_of_loops, plus_one, program};
 use other::generate::batches::{job, Batch, Job};
 use other::generate::lend;
 use other::generate::states::{
@@ -17,7 +19,7 @@ use other::run::stepper::Config;
 use other::run::{run, Outcome};
 use other::substitute::{substitute, values_of};
 use other::translate::translate;
-use other::tree::{Atom, Block, Bound, Command, Expr, Program, Simple, Term};
+use other::tree::{Atom, Block, Bound, Command, Expr, Program, Simple, Term, TermRecord};
 
 const ROOM: usize = 16_384;
 
@@ -199,11 +201,7 @@ fn an_empty_block_inside_is_not_the_end() {
     assert_eq!(finished(block, &[0]), (2, vec![1]));
     let block = vec![Command::Block(vec![assign(1, Expr::Literal(1))])];
     assert_eq!(finished(block, &[0]), (2, vec![1]));
-    let none = Program {
-        k: 1,
-        block: vec![],
-    };
-    assert_eq!(finished(none.block, &[4]), (0, vec![4]));
+    assert_eq!(finished(vec![], &[4]), (0, vec![4]));
 }
 
 /// How many variables become numerals: where the store is substituted in the program's term, and then
@@ -422,13 +420,9 @@ fn batch_answers(program: &Program, jobs: &[Job]) -> Vec<u32> {
     batch.answers
 }
 
-fn plus_one() -> Program {
-    program(1, vec![assign(1, Expr::PlusOne(1))])
-}
-
-/// A job starts from what the last one left, or all from the first store: {x1 := x1 + 1} on 5 behind a job that
-/// is finished, spent after 1 or over, and then on 9. From the term left the second would be finished after
-/// 0, finished after 1, or over; from the values left by the first it would show 7.
+/// A job starts from what the last one left, or all from the first store: {x1 := x1 + 1} on 5 behind a
+/// job that is finished, spent after 1 or over, and then on 9. From the term left the second would be
+/// finished after 0, finished after 1, or over; from the values left by the first it would show 7.
 #[test]
 fn each_job_starts_from_its_own_store() {
     let nine = job(&[9], 2);
@@ -493,4 +487,146 @@ fn the_number_of_stores_is_looked_at_before_the_header() {
     assert_eq!(batch.run(run_batch).number, 1);
     let mut batch = Batch::of(&translate(&plus_one()).encode(), &[job(&[5], 2)]);
     assert_eq!(batch.run(run_batch).number, 2);
+}
+
+/// What all engines make of {x1 := x1 + 1} on a value under a ceiling: outcome and steps, which must be
+/// the same.
+fn one_more(ceiling: u32, value: u32) -> (u32, u32) {
+    let program = plus_one().under(ceiling);
+    let record = program.encode();
+    let ran = run_stepper(&mut lend(&record, 40), record.len(), &mut [value], 9);
+    let counted = run_counting(&record, record.len(), &mut START.clone(), &mut [value], 9);
+    let store = vec![value];
+    let term = Config { program, store }.term().encode();
+    let reduced = run_reducer(&mut lend(&term, 60), term.len(), 9).ran;
+    let mut batch = Batch::of(&record, &[job(&[value], 9)]);
+    batch.run(run_batch);
+    assert_eq!([ran.number, counted.number, reduced.number], [0; 3]);
+    assert_eq!((counted.outcome, counted.steps), (ran.outcome, ran.steps));
+    assert_eq!((reduced.outcome, reduced.steps), (ran.outcome, ran.steps));
+    assert_eq!(batch.answers[..2], [ran.outcome, ran.steps]);
+    (ran.outcome, ran.steps)
+}
+
+/// Over at the ceiling, where it is a next value above it; or the old limit kept: 4 + 1 is 5, and 5 + 1
+/// is above it.
+#[test]
+fn over_is_a_value_above_the_ceiling() {
+    let (finished, over) = (Outcome::Finished.number(), Outcome::Over.number());
+    assert_eq!(one_more(5, 4), (finished, 2));
+    assert_eq!(one_more(5, 5), (over, 0));
+    assert_eq!(one_more(0, 0), (over, 0));
+    assert_eq!(one_more(u32::MAX, u32::MAX - 1), (finished, 2));
+    assert_eq!(one_more(u32::MAX, u32::MAX), (over, 0));
+}
+
+/// The ceiling not copied by the translator, or by the read-back, or the kind of edition 1 given: the
+/// header of the term of {x1 := x1 + 1} under 258, which has 44 bytes, and back again. With another
+/// ceiling than the program's the reducer would be over elsewhere than the stepper.
+#[test]
+fn the_translator_copies_the_ceiling() {
+    let record = plus_one().under(258).encode();
+    let mut term = [0xA5; 44];
+    let written = translate_over_bytes(&record, record.len(), &mut term);
+    assert_eq!((written.number, written.used), (0, 44));
+    assert_eq!(term[..12], [44, 0, 41, 0, 1, 0, 0, 0, 2, 1, 0, 0]);
+    let mut back = [0xA5; 32];
+    let written = read_back_over_bytes(&term, 44, &mut back);
+    assert_eq!((written.number, written.used), (0, 32));
+    assert_eq!(back[..12], [32, 0, 9, 0, 1, 0, 0, 0, 2, 1, 0, 0]);
+    assert_eq!(back[..], record);
+}
+
+/// 15 before 5, or before 4 or 12: {x1 := 6; x2 := x1} with k = 1 under a ceiling of 5 has a literal
+/// above it first and a wrong variable behind that.
+#[test]
+fn a_wrong_variable_before_a_literal_above_the_ceiling() {
+    let number = |variable, ceiling| {
+        let block = vec![
+            assign(1, Expr::Literal(6)),
+            assign(variable, Expr::Variable(1)),
+        ];
+        let record = program(1, block).under(ceiling).encode();
+        check_program(&record, record.len()).number
+    };
+    assert_eq!(number(1, 6), 0);
+    assert_eq!(number(1, 5), 15);
+    assert_eq!(number(2, 5), 5);
+    assert_eq!(number(2, 6), 5);
+    let number = |atom, ceiling| {
+        let tuple = Term::Tuple(vec![Atom::Numeral(6), atom]);
+        let record = TermRecord::new(2, tuple).under(ceiling).encode();
+        check_term(&record, record.len()).number
+    };
+    assert_eq!(number(Atom::Variable(2), 6), 0);
+    assert_eq!(number(Atom::Variable(2), 5), 15);
+    assert_eq!(number(Atom::Variable(3), 5), 5);
+    // 33 deep, which only the counting stepper asks.
+    let mut deep = nest_of_blocks(1, 32);
+    deep.block.push(assign(1, Expr::Literal(6)));
+    let record = deep.under(5).encode();
+    let number = run_counting(&record, record.len(), &mut START.clone(), &mut [0], 1).number;
+    assert_eq!(
+        (number, check_program(&record, record.len()).number),
+        (12, 15)
+    );
+}
+
+/// 16 tested on the result's store, which is only written: it holds 6 under a ceiling of 5, and takes
+/// the term's 5.
+#[test]
+fn the_results_store_is_not_held_to_the_ceiling() {
+    let tuple = Term::Tuple(vec![Atom::Numeral(5)]);
+    let mut record = TermRecord::new(1, tuple).under(5).encode();
+    let mut store = [6];
+    assert_eq!(result(&record, record.len(), &mut store), 0);
+    assert_eq!(store, [5]);
+    // Where the store is read, it is.
+    let number = substitute_over_bytes(&mut record, 24, &[6]).number;
+    assert_eq!(number, 16);
+}
+
+/// Kind 8 taken for a program's, which stands between 7 and 9: it is no kind, at the front or within.
+#[test]
+fn kind_8_is_none() {
+    for (kind, number) in [(7, 4), (8, 2), (9, 0), (10, 2)] {
+        let mut record = plus_one().under(5).encode();
+        record[2] = kind;
+        assert_eq!(
+            check_program(&record, record.len()).number,
+            number,
+            "{kind}"
+        );
+        // The block's kind.
+        let mut record = plus_one().under(5).encode();
+        record[14] = kind;
+        assert_eq!(check_program(&record, record.len()).number, 4, "{kind}");
+    }
+}
+
+/// A header of 12 bytes cut to 8: with 8 to 11 bytes edition 2 has no header, whatever k is; and a run,
+/// a translation or a writing out that took 8 for its length would leave the ceiling in the place of
+/// the block.
+#[test]
+fn a_header_of_edition_2_has_12_bytes() {
+    for used in 8..=12 {
+        let mut record = plus_one().under(5).encode();
+        record[0] = used;
+        let number = |record: &[u8]| check_program(record, usize::from(used)).number;
+        assert_eq!(number(&record), if used < 12 { 2 } else { 4 });
+        record[4] = 17;
+        assert_eq!(number(&record), if used < 12 { 2 } else { 3 });
+    }
+    let record = plus_one().under(5).encode();
+    let mut buffer = lend(&record, 40);
+    let ran = run_stepper(&mut buffer, record.len(), &mut [4], 9);
+    assert_eq!(
+        buffer[..16],
+        [16, 0, 9, 0, 1, 0, 0, 0, 5, 0, 0, 0, 4, 0, 1, 0]
+    );
+    assert_eq!(ran.used, 16);
+    let mut out = [0xA5; 40];
+    let written = expand(&record, record.len(), &waiting(START, 5), &[4], &mut out);
+    assert_eq!(written.used as usize, record.len());
+    assert_eq!(out[..16], record[..16]);
 }

@@ -9,7 +9,8 @@ use std::thread;
 
 use other::codec::Record;
 use other::examples::{add, row_of_blocks};
-use other::generate::programs::{program, store};
+use other::generate::lending::lent_store;
+use other::generate::programs::program;
 use other::line::line;
 use other::random::cases;
 use other::tree::{with_big_stack, Program};
@@ -60,7 +61,7 @@ fn the_inputs_of_the_folder() {
             count += 1;
         }
     }
-    assert!(count >= 20);
+    assert!(count >= 30);
 }
 
 /// Empty, one byte, every length up to the whole input and a little more, a first length above
@@ -85,6 +86,33 @@ fn bad_input() {
     }
 }
 
+/// ADD in edition 2, at every length of the input; with every first length up to the block's own; with
+/// every kind up to 50; and with every ceiling about its values: on 7, 3 it needs 10.
+#[test]
+fn a_program_under_a_ceiling() {
+    let whole = input(&add().under(10), &[7, 3, 0, 0]);
+    for len in 0..=whole.len() {
+        agrees(&whole[..len]);
+    }
+    for first in 0..=20 {
+        let mut bytes = whole.clone();
+        bytes[0] = first;
+        agrees(&bytes);
+    }
+    for kind in 0..=50 {
+        let mut bytes = whole.clone();
+        bytes[2] = kind;
+        agrees(&bytes);
+    }
+    for ceiling in (0..14).chain([u32::MAX - 1, u32::MAX]) {
+        agrees(&input(&add().under(ceiling), &[7, 3, 0, 0]));
+        agrees(&input(
+            &add().under(ceiling),
+            &[ceiling, 3.min(ceiling), 0, 0],
+        ));
+    }
+}
+
 #[test]
 fn a_term_that_just_fits() {
     with_big_stack(|| {
@@ -102,10 +130,13 @@ fn generated_inputs() {
     cases(600, |random| {
         let limit = 12 + random.below(150);
         let program = program(random, limit);
-        let mut values = store(random, program.k);
-        // Large values run long: that is the spent budget's part, which the folder has.
-        for value in &mut values {
-            *value %= 12;
+        let mut values = lent_store(random, program.header);
+        // Large values run long: that is the spent budget's part, which the folder has. But where the
+        // ceiling is low, one above it is refused.
+        if program.header.ceiling() > 12 {
+            for value in &mut values {
+                *value %= 12;
+            }
         }
         let mut bytes = input(&program, &values);
         for _ in 0..random.below(3) {

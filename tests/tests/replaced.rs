@@ -45,7 +45,7 @@ fn all() -> Term {
 }
 
 fn record(k: u32, term: Term) -> Vec<u8> {
-    TermRecord { k, term }.encode()
+    TermRecord::new(k, term).encode()
 }
 
 fn example(name: &str) -> Example {
@@ -411,8 +411,22 @@ fn start(random: &mut Random) -> TermRecord {
         return closed_term(random, limit);
     }
     let (program, _) = translation(random, limit);
-    let store = store(random, program.k);
+    let store = store(random, program.header);
     Config { program, store }.term()
+}
+
+/// The same term under another header that it may have: of edition 1, or with a ceiling of its largest
+/// numeral, a few more, or the largest value.
+fn under_another_header(random: &mut Random, start: &TermRecord) -> TermRecord {
+    let largest = start.literals().into_iter().max().unwrap_or(0);
+    let few = random.below(5) as u32;
+    let again = TermRecord::new(start.header.k, start.term.clone());
+    match random.below(4) {
+        0 => again,
+        1 => again.under(u32::MAX),
+        2 => again.under(largest),
+        _ => again.under(largest.saturating_add(few)),
+    }
 }
 
 /// Total steps, and total of replaced variables.
@@ -452,20 +466,22 @@ fn refused_run(random: &mut Random, held: &mut Held) {
 }
 
 /// "Runs from one term with the same total steps, however many orders they are spread over, have the
-/// same total of filled places": two lists in two buffers, one run of so many steps, and the count
-/// made in the records.
+/// same total of filled places": two lists in two buffers, under any two headers, one run of so many
+/// steps, and the count made in the records, where no ceiling stops it.
 #[test]
 fn equal_totals_of_steps_have_equal_totals_of_replaced() {
     // Refused runs; two lists at the same total, with something replaced, in buffers of different
-    // lengths.
-    let seen = Counts::<4>::default();
+    // lengths, under different headers.
+    let seen = Counts::<5>::default();
     cases(6_000, |random| {
         let start = start(random);
+        let again = under_another_header(random, &start);
         let (room, one) = list(random, &start, || seen.one(0));
-        let (other_room, other) = list(random, &start, || seen.one(0));
+        let (other_room, other) = list(random, &again, || seen.one(0));
 
         let most = one.iter().chain(&other).map(|total| total.0).max();
-        let counted = totals(&start, most.expect("both start with a total"));
+        let free = TermRecord::new(start.header.k, start.term.clone());
+        let counted = totals(&free, most.expect("both start with a total"));
         for (steps, replaced) in one.iter().chain(&other) {
             assert_eq!(*replaced, counted[*steps as usize], "after {steps}");
         }
@@ -478,11 +494,13 @@ fn equal_totals_of_steps_have_equal_totals_of_replaced() {
             seen.one(1);
             seen.add(2, u32::from(*replaced > 0));
             seen.add(3, u32::from(*replaced > 0 && room != other_room));
+            let headers = start.header != again.header;
+            seen.add(4, u32::from(*replaced > 0 && headers));
         }
 
         let (steps, replaced) = *other.last().expect("a total");
-        let whole = Held::new(&start.encode(), ROOM).run(steps);
+        let whole = Held::new(&again.encode(), ROOM).run(steps);
         assert_eq!((whole.ran.steps, whole.replaced), (steps, replaced));
     });
-    seen.assert_at_least([6_000, 12_000, 3_000, 3_000]);
+    seen.assert_at_least([6_000, 12_000, 3_000, 3_000, 2_000]);
 }

@@ -1,4 +1,5 @@
-//! Rows 1 to 5 of 01's table: each damage gives the row it was made for, in every call.
+//! Rows 1 to 5 of 01's table, and 15 of 02 behind them: each damage gives the row it was made for, in every
+//! call. `ceiling_rows.rs` has 15, 16 and edition 2's headers value by value.
 
 use other::both::{
     check_program, check_term, read_back, result, run_reducer, run_stepper, substitute, translate,
@@ -13,22 +14,16 @@ use other::generate::damage::{
 use other::generate::programs::program;
 use other::generate::raw::Raw;
 use other::generate::terms::{any_term, closed_term, translation, SHORTEST};
-use other::random::{cases, Counts, Random};
+use other::random::{cases, Counts, Random, Rows};
 use other::tree::{with_big_stack, Command, Expr, Program, TermRecord};
 
 type Check = fn(&[u8], usize) -> Checked;
 
-/// Two programs and three terms in which every kind of the grammar occurs, each with its check.
-fn samples() -> [(Check, Vec<u8>); 5] {
-    let [add, program] = sample_programs();
-    let [translation, open, closed] = sample_terms();
-    [
-        (check_program, add),
-        (check_program, program),
-        (check_term, translation),
-        (check_term, open),
-        (check_term, closed),
-    ]
+/// Programs and terms of both editions in which every kind of the grammar occurs, each with its check.
+fn samples() -> Vec<(Check, Vec<u8>)> {
+    let programs = sample_programs().map(|bytes| (check_program as Check, bytes));
+    let terms = sample_terms().map(|bytes| (check_term as Check, bytes));
+    programs.into_iter().chain(terms).collect()
 }
 
 /// Every break of every record within the samples is row 4.
@@ -113,7 +108,7 @@ fn a_wrong_variable_early_and_a_break_late_is_4() {
         Command::Assign(5, Expr::Variable(1)),
         Command::Assign(1, Expr::Variable(1)),
     ];
-    let mut bytes = Program { k: 4, block }.encode();
+    let mut bytes = Program::new(4, block).encode();
     assert_eq!(
         check_program(&bytes, bytes.len()),
         Checked::refused(Refusal::BadVariable)
@@ -208,7 +203,7 @@ fn buffers_of_16384_and_16385() {
 fn k_from_1_to_16_and_no_other() {
     for k in 1..=16 {
         let block = vec![Command::Assign(k, Expr::Variable(1))];
-        let bytes = Program { k, block }.encode();
+        let bytes = Program::new(k, block).encode();
         assert_eq!(check_program(&bytes, bytes.len()), Checked { number: 0, k });
     }
     for (check, bytes) in samples() {
@@ -228,7 +223,8 @@ fn k_from_1_to_16_and_no_other() {
 /// variables depend on k: ADD names x4, so 3 is too few (row 5) and 5 is sound.
 #[test]
 fn another_k_that_is_allowed() {
-    let [(_, mut program), _, (_, mut term), ..] = samples();
+    let [mut program, ..] = sample_programs();
+    let [mut term, ..] = sample_terms();
     for k in (1..=16).filter(|k| *k != 4) {
         term[4] = k as u8;
         program[4] = k as u8;
@@ -352,16 +348,67 @@ fn refused_by_every_call(
     sound: fn(&mut Random) -> Vec<u8>,
     refuse: fn(&mut Random, &Damaged, u32),
 ) {
-    let rows = Counts::<6>::default();
+    let rows = Rows::default();
     cases(20_000, |random| {
         let sound = sound(random);
         let case = damage(random, &sound);
         let number = case.number.expect("a known row");
-        rows.one(number as usize);
+        rows.one(number);
         let _told = Told(&case);
         refuse(random, &case, number);
     });
-    rows.assert_at_least([0, 500, 500, 500, 500, 500]);
+    rows.assert_at_least(&[(1, 500), (2, 500), (3, 500), (4, 500), (5, 500), (15, 300)]);
+}
+
+/// Of wrong headers the generator makes those that edition 2 brings: kind 8, between 7 and 9; the kinds
+/// of the other sort of record; a header of edition 2 that says 8, 9, 10 or 11 bytes; a length that is
+/// not the used length. And of broken records those without their ceiling, told by a header of edition
+/// 2 behind whose 8 bytes a block's or term's head stands that is as long as the rest.
+#[test]
+fn damaged_headers_are_of_every_sort() {
+    let seen = Counts::<8>::default();
+    cases(20_000, |random| {
+        let program = random.one_in(2);
+        let sound = match program {
+            true => sound_program(random),
+            false => sound_term(random),
+        };
+        let Damaged {
+            buffer,
+            used,
+            number,
+        } = damaged(random, &sound);
+        if used < 8 || used > buffer.len() || buffer.len() > 16_384 {
+            return;
+        }
+        let half = |at: usize| usize::from(u16::from_le_bytes([buffer[at], buffer[at + 1]]));
+        let (length, kind) = (half(0), half(2));
+        let (second, others) = match program {
+            true => (9, [40, 41]),
+            false => (41, [7, 9]),
+        };
+        let whole = kind == second && length == used;
+        let sorts = [
+            kind == 8,
+            others.contains(&kind),
+            length != used,
+            whole && used == 8,
+            whole && used == 9,
+            whole && used == 10,
+            whole && used == 11,
+        ];
+        for (sort, met) in sorts.into_iter().enumerate() {
+            if met {
+                assert!(matches!(number, Some(1 | 2)));
+                seen.one(sort);
+            }
+        }
+        let without = whole && used >= 12 && half(8) == used - 8;
+        if without && number == Some(Refusal::Malformed.number()) {
+            seen.one(7);
+        }
+    });
+    seen.assert_at_least([30, 100, 500, 100, 100, 100, 100, 50]);
 }
 
 /// Prints the bytes of a case that fails.
@@ -386,12 +433,12 @@ fn damaged_terms_are_refused_by_every_call() {
     refused_by_every_call(sound_term, term_calls_refuse);
 }
 
-/// Bits turned over anywhere: what passes is the encoding of a tree with that k, and nothing else
-/// passes; a row is one of 2 to 5.
+/// Bits turned over anywhere: what passes is the encoding of a tree with that k, its variables and literals
+/// what they may be, and nothing else passes; a row is one of 2 to 5, or 15.
 #[test]
 fn turned_bits_leave_a_sound_record_or_a_refusal() {
-    let passed = Counts::<1>::default();
-    cases(10_000, |random| {
+    let passed = Counts::<2>::default();
+    cases(12_000, |random| {
         let case = if random.one_in(2) {
             let sound = sound_program(random);
             let case = flipped(random, &sound);
@@ -405,23 +452,30 @@ fn turned_bits_leave_a_sound_record_or_a_refusal() {
         };
         assert_eq!(case.used, case.buffer.len());
     });
-    passed.assert_at_least([200]);
+    passed.assert_at_least([200, 200]);
 }
 
-fn agrees_with_its_tree<R: Record>(check: Check, case: &Damaged, passed: &Counts<1>) {
+fn agrees_with_its_tree<R: Record>(check: Check, case: &Damaged, passed: &Counts<2>) {
     let got = check(&case.buffer, case.used);
     let told = hex(&case.buffer);
     if got.number != 0 {
-        assert!((2..=5).contains(&got.number) && got.k == 0, "{told}");
+        assert!(matches!(got.number, 2..=5 | 15) && got.k == 0, "{told}");
         return;
     }
     let tree = R::decode(&case.buffer).expect("a tree");
     assert_eq!(tree.encode(), case.buffer);
-    assert_eq!(got.k, tree.k());
+    assert_eq!(got.k, tree.header().k);
     assert!((1..=16).contains(&got.k), "{told}");
+    let named = |x: &u32| (1..=got.k).contains(x);
+    assert!(tree.variables().iter().all(named), "{told}");
+    // Of the bytes themselves: the ceiling stands behind k, in a record of kind 9 or 41.
+    let ceiling = match case.buffer[2] {
+        9 | 41 => u32::from_le_bytes(case.buffer[8..12].try_into().expect("4 bytes")),
+        _ => u32::MAX,
+    };
     assert!(
-        tree.variables().iter().all(|x| (1..=got.k).contains(x)),
+        tree.literals().iter().all(|value| *value <= ceiling),
         "{told}"
     );
-    passed.one(0);
+    passed.one(usize::from(ceiling < u32::MAX));
 }

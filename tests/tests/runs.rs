@@ -46,11 +46,7 @@ fn reduce(program: &Program, store: &[u32], room: usize, budget: u32) -> Reduced
 /// Finished is looked at first, whatever the budget; the bytes behind are cleared all the same.
 #[test]
 fn no_budget_on_a_finished_state_is_finished() {
-    let empty = Program {
-        k: 1,
-        block: vec![],
-    };
-    let record = empty.encode();
+    let record = Program::new(1, vec![]).encode();
     let mut buffer = lend(&record, 20);
     let ran = run_stepper(&mut buffer, 12, &mut [7], 0);
     assert_eq!(ran, end(Outcome::Finished, 0, 0, 12));
@@ -60,7 +56,7 @@ fn no_budget_on_a_finished_state_is_finished() {
     assert_eq!(ran, end(Outcome::Finished, 0, u32::MAX, 12));
 
     let term = Term::Tuple(vec![Atom::Numeral(7)]);
-    let record = TermRecord { k: 1, term }.encode();
+    let record = TermRecord::new(1, term).encode();
     let mut buffer = lend(&record, 23);
     let ran = run_reducer(&mut buffer, 20, 0);
     assert_eq!(ran, reduced(end(Outcome::Finished, 0, 0, 20), 0));
@@ -111,7 +107,7 @@ fn the_order_of_the_outcomes() {
     let ran = step(&plus_one.program, &[u32::MAX], 28, 0);
     assert_eq!(ran, end(Outcome::Over, 0, 0, 28));
     let block = vec![Command::Loop(1, Bound::Literal(1), vec![])];
-    let program = Program { k: 1, block };
+    let program = Program::new(1, block);
     // 32 bytes; unrolled a block's head of 4 and an assignment of 16 more.
     assert_eq!(step(&program, &[9], 51, 0), end(Outcome::NoRoom, 0, 0, 32));
     assert_eq!(step(&program, &[9], 52, 0), end(Outcome::Spent, 0, 0, 32));
@@ -159,7 +155,7 @@ fn runs_go_by_01() {
     cases(6_000, |random| {
         let limit = 12 + random.below(300);
         let program = program(random, limit);
-        let store = store(random, program.k);
+        let store = store(random, program.header);
         agrees(&Config { program, store }, random, &seen);
         agrees(&closed_term(random, SHORTEST + 200), random, &seen);
     });
@@ -171,7 +167,7 @@ fn runs_go_by_01() {
 fn runs_over_bytes_leave_what_they_should() {
     cases(6_000, |random| {
         let (program, _) = translation(random, SHORTEST + 200);
-        let store = store(random, program.k);
+        let store = store(random, program.header);
         let config = Config { program, store };
         let budget = *random.pick(&[0, 1, 3, 40]);
         let record = config.program.encode();
@@ -215,7 +211,7 @@ fn the_stepper_wants_k_values() {
     cases(1_000, |random| {
         let program = program(random, 200);
         let record = program.encode();
-        let mut values = wrong_store(random, program.k);
+        let mut values = wrong_store(random, program.header.k);
         let (before, mut buffer) = (values.clone(), lend(&record, 210));
         let ran = run_stepper(&mut buffer, record.len(), &mut values, 9);
         assert_eq!(ran, Ran::refused(Refusal::BadStore));
@@ -230,10 +226,7 @@ fn the_stepper_wants_k_values() {
 fn the_reducer_wants_a_closed_term() {
     let open = [
         translate(&add()),
-        TermRecord {
-            k: 1,
-            term: Term::Tuple(vec![Atom::Variable(1)]),
-        },
+        TermRecord::new(1, Term::Tuple(vec![Atom::Variable(1)])),
     ];
     for record in open {
         let bytes = record.encode();
@@ -249,7 +242,7 @@ fn the_reducer_wants_a_closed_term() {
         let number = run_reducer(&mut buffer, bytes.len(), 0).ran.number;
         let open = Refusal::FreeVariable.number();
         assert_eq!(number, if closed(&record.term) { 0 } else { open });
-        let values = store(random, record.k);
+        let values = store(random, record.header);
         substitute(&mut buffer, bytes.len(), &values);
         assert_eq!(run_reducer(&mut buffer, bytes.len(), 5).ran.number, 0);
     });
@@ -267,7 +260,7 @@ fn a_rec_on_top_by_hand() {
     let end_of_body = Term::Tuple(vec![Atom::Variable(1)]);
     let body = Term::LetOne(1, Simple::Succ(Atom::Variable(1)), Box::new(end_of_body));
     let rec = Term::Rec(1, Atom::Numeral(2), vec![Atom::Numeral(7)], Box::new(body));
-    let mut record = TermRecord { k: 1, term: rec };
+    let mut record = TermRecord::new(1, rec);
     assert_eq!(run(&mut record, 9_999, 99), (Outcome::Finished, 11));
     assert_eq!(record.term, numeral(3));
 }
@@ -285,7 +278,7 @@ fn succ_and_pred_of_numerals() {
     for (simple, value) in simples {
         let last = Box::new(Term::Tuple(vec![Atom::Variable(1)]));
         let term = Term::LetOne(1, simple, last);
-        let mut record = TermRecord { k: 1, term };
+        let mut record = TermRecord::new(1, term);
         let wanted = match value {
             Some(_) => (Outcome::Finished, 2),
             None => (Outcome::Over, 0),
@@ -313,7 +306,7 @@ fn result_and_its_rows() {
     ];
     for (term, number) in terms {
         let term = term.clone();
-        let record = TermRecord { k: 2, term }.encode();
+        let record = TermRecord::new(2, term).encode();
         let mut store = [5, 6];
         assert_eq!(result(&record, record.len(), &mut store), number);
         let wanted = if number == 0 { [8, u32::MAX] } else { [5, 6] };

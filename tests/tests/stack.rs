@@ -1,5 +1,5 @@
 //! The stack that each call of the library takes: no more than 2 KB, a batch 2.2 KB,
-//! however long, deep or branching the record is, as `include/vistrokk.h` says.
+//! however long, deep or branching the record is and of whichever edition, as `include/vistrokk.h` says.
 //!
 //! What is measured, and how, stands at `other::stack`: the deepest byte written below the start of
 //! a painted stack, the frames of the Rust wrapper included. `cargo test --test stack --

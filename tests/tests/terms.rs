@@ -49,8 +49,8 @@ fn each_rule_of_the_translation() {
     let rest = let_all(let_one(1, Simple::Succ(Variable(2)), all()), rest);
     let rest = let_one(2, Simple::Atom(Variable(1)), rest);
     let term = let_one(1, Simple::Atom(Numeral(5)), rest);
-    let program = Program { k: 2, block };
-    assert_eq!(translation_of(&program), TermRecord { k: 2, term });
+    let program = Program::new(2, block);
+    assert_eq!(translation_of(&program), TermRecord::new(2, term));
 }
 
 #[test]
@@ -60,7 +60,8 @@ fn read_back_of_a_translation_is_the_program() {
         let limit = 12 + random.below(most);
         let program = program(random, limit);
         let term = translation_of(&program);
-        assert_eq!((term.k, program_of(&term)), (program.k, Some(program)));
+        assert_eq!(term.header, program.header);
+        assert_eq!(program_of(&term), Some(program));
     });
 }
 
@@ -111,7 +112,7 @@ fn terms_that_no_program_translates_to() {
         let_all(other_start([Numeral(0), Variable(2)]), all()),
     ];
     for term in refused {
-        let record = TermRecord { k: 2, term }.encode();
+        let record = TermRecord::new(2, term).encode();
         let mut out = [0xA5; 100];
         let written = read_back(&record, record.len(), &mut out);
         assert_eq!(
@@ -132,7 +133,7 @@ fn terms_that_no_program_translates_to() {
         );
     }
     let read = let_all(rec(all()), all());
-    assert!(program_of(&TermRecord { k: 2, term: read }).is_some());
+    assert!(program_of(&TermRecord::new(2, read)).is_some());
 }
 
 #[test]
@@ -253,7 +254,7 @@ fn each_binding_rule_of_substitution() {
             let_one(2, Simple::Atom(Variable(1)), both(Variable(1), Variable(2))),
         ),
     );
-    let encoded = |term| TermRecord { k: 2, term }.encode();
+    let encoded = |term| TermRecord::new(2, term).encode();
     let (record, wanted) = (encoded(open), encoded(substituted));
     let mut buffer = lend(&record, record.len() + 5);
     let written = substitute(&mut buffer, record.len(), &[5, 6]);
@@ -272,7 +273,7 @@ fn substitution_changes_no_length_and_closes() {
     cases(4_000, |random| {
         let limit = SHORTEST + random.below(600);
         let record = any_term(random, limit);
-        let values = store(random, record.k);
+        let values = store(random, record.header);
         let bytes = record.encode();
         let mut buffer = lend(&bytes, bytes.len() + random.below(20));
         let used = bytes.len() as u32;
@@ -374,9 +375,9 @@ fn free_variables_are_those_that_substitution_replaces() {
             _ => any_term(random, SHORTEST + 300),
         };
         let free = free_variables(&record.term);
-        for variable in 1..=record.k {
+        for variable in 1..=record.header.k {
             let mut substituted = record.term.clone();
-            let mut only = values_of(&store(random, record.k));
+            let mut only = values_of(&store(random, record.header));
             only.retain(|x, _| *x == variable);
             substitute_in(&mut substituted, &only);
             assert_eq!(substituted != record.term, free.contains(&variable));

@@ -14,7 +14,7 @@ use Rattle.record.specs.Header.{contentsAt, encodeProgram, encodeTerm, largestO
 use Rattle.record.specs.Holding.{ProgramIn, TermIn}
 use Rattle.record.specs.Program.{blockSize}
 use Rattle.record.specs.Term.{termSize}
-use Rattle.record.proofs.HeaderLaws.{length-encodeProgram, length-encodeTerm, ok-limit}
+use Rattle.record.proofs.HeaderLaws.{first-fits, length-encodeProgram, length-encodeTerm, ok-limit}
 use Rattle.record.proofs.HeldLaws.{take-fits}
 use Rattle.record.proofs.SizeLaws.{termSize-substitute}
 use Rattle.reducer.specs.RunReducer.{reducedTo, reductions, runReducer}
@@ -196,7 +196,7 @@ module _ (a b c d : ℕ) (values : SmallValues (okOf hd) (four a b c d)) (small 
     holds : ProgramIn hd add buf 64
     holds = record {
       within = take-fits 64 buf (ap length bytes ∙ add-lengths .0);
-      header = record { k-low = omega arith; k-high = omega arith };
+      header = first-fits 4 (omega arith) (omega arith);
       bytes = bytes;
       isProgram = record { variables = add-variables; literals = sound .literals };
     }
@@ -225,7 +225,7 @@ module _ (a b c d : ℕ) (values : SmallValues (okOf hd) (four a b c d)) (small 
     holds-term : TermIn noVars hd (stateOf 4 (at add (four a b c d))) buf 172
     holds-term = record {
       within = take-fits 172 buf (ap length bytes ∙ start-length);
-      header = record { k-low = omega arith; k-high = omega arith };
+      header = first-fits 4 (omega arith) (omega arith);
       bytes = bytes;
       sound = sound-stateOf (okOf hd) (ok-limit hd) 4 (at add (four a b c d)) sound;
     }

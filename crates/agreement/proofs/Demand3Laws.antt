@@ -7,7 +7,7 @@ use mathlib.Core.Option.{Option·map, Option·some-injective, some}
 use lib.ListN.{length, take}
 use native.Mathlib.Omega.{arith}
 use Rattle.counting.specs.Counting.{expandConfig}
-use Rattle.counting.specs.CountingMeaning.{Accepts}
+use Rattle.counting.specs.CountingMeaning.{Passes}
 use Rattle.counting.specs.Depth.{nesting}
 use Rattle.counting.proofs.CountingMeaningLaws.{start-expands}
 use Rattle.counting.proofs.CountingRanLaws.{counting-ran}
@@ -15,8 +15,9 @@ use Rattle.counting.proofs.CountingRunLaws.{counting-steps}
 use Rattle.counting.proofs.StateWordsLaws.{decode-start}
 use Rattle.record.specs.Answers.{Wrote, checkProgram}
 use Rattle.record.specs.declared.Header.{Header}
-use Rattle.record.specs.Header.{encodeProgram, encodeTerm, okOf}
+use Rattle.record.specs.Header.{encodeProgram, encodeTerm, largestOf, okOf}
 use Rattle.record.specs.Holding.{ProgramIn, TermIn}
+use Rattle.record.specs.Program.{BlockWords}
 use Rattle.record.specs.Rows.{headerOf, programOf}
 use Rattle.rules.specs.FreeVariables.{noVars}
 use Rattle.rules.specs.Reduction.{onNext, reduce}
@@ -31,16 +32,17 @@ use Rattle.record.proofs.HeaderLaws.{ok-limit, ok-word}
 use Rattle.record.proofs.HoldingLaws.{check-program, program-elsewhere, program-header, program-is, program-k, program-words, term-words}
 use Rattle.record.proofs.WordsLaws.{block-words}
 use Rattle.reducer.proofs.RunReducerLaws.{reducer-number, reducer-passes, reducer-takes}
+use Rattle.rules.proofs.LiteralsLaws.{not-small}
 use Rattle.rules.proofs.LockStep.{lock-step, lock-steps}
 use Rattle.rules.proofs.SoundTermLaws.{sound-stateOf}
 use Rattle.rules.proofs.SubstitutionLaws.{substitute-all}
 use Rattle.term.specs.Calls.{Substituted, substituteCall}
 use Rattle.stepper.proofs.RunStepperLaws.{stepper-number, stepper-passes, stepper-takes}
-use Rattle.term.proofs.CallLaws.{stored-size}
+use Rattle.term.proofs.CallLaws.{stored-size, stored-values}
 use Rattle.agreement.specs.Demand3.{Agreed, Agreement, Demand3, Demand3Calls, Demand3Either, Demand3Refusals, HoldsBlock, Refuses, Start, begun, startWorld}
 use Rattle.agreement.specs.Orders.{AllAllowed, Engine, Memory, Order, RecordedMemory, Standing, Stepper, World, counted, play, recorded, reduces, steps, storeIn}
 use Rattle.agreement.specs.WeighedStore.{TermLent}
-use Rattle.agreement.proofs.StartLaws.{engines-take, program-holds, translates, zero-words}
+use Rattle.agreement.proofs.StartLaws.{engines-take, program-holds, translates}
 use Rattle.agreement.proofs.Play.{At, Holds, StandsFrom, begins, counted-takes, machine, stands, starts}
 
 -- WHAT IS READ FROM THE TWO STATES, where the one is the other's translation with the store substituted
@@ -56,13 +58,13 @@ pub finished-state : (k : ℕ) (s : List ℕ) → length s ≡ k → stateOf k (
 unfolding stateOf translate substitute
 finished-state k s e = ap tuple (subst (λ n. map (substituteAtom (fromStore s)) (all n) ≡ map num s) e (substitute-all s))
 
-onNext-over : {A B : Type 0} (f : A → B) (a : Answer A) → onNext f a ≡ over → a ≡ over
+pub onNext-over : {A B : Type 0} (f : A → B) (a : Answer A) → onNext f a ≡ over → a ≡ over
 unfolding onNext
 onNext-over f (finished vs) e = cc
 onNext-over f over e = refl
 onNext-over f (next a) e = cc
 
-over-onNext : {A B : Type 0} (f : A → B) (a : Answer A) → a ≡ over → onNext f a ≡ over
+pub over-onNext : {A B : Type 0} (f : A → B) (a : Answer A) → a ≡ over → onNext f a ≡ over
 unfolding onNext
 over-onNext f a e = rw e refl
 
@@ -107,7 +109,7 @@ module _ (hd : Header) (P : Block) (μ : List ℕ) {cb : List ℕ} {cu : ℕ} (g
 
   -- IN ANY WORLD in which the engines stand as their totals say, from a sound configuration and its term
   module _ (sound : SoundConfig (okOf hd) (hd .k) (record { block = P; store = μ })) (w : World) (stand : (e : Engine) → StandsFrom hd P μ given e w) where
-    -- either stepper, its state being a, its block and store the configuration c
+    -- either stepper, its state being a, its block and store the configuration held
     module _ (e : Stepper) where
       abbrev here : StandsFrom hd P μ given (steps e) w
       here = stand (steps e)
@@ -115,14 +117,21 @@ module _ (hd : Header) (P : Block) (μ : List ℕ) {cb : List ℕ} {cu : ℕ} (g
       abbrev values : List ℕ
       values = storeIn e ((w (steps e)) .memory)
 
-      abbrev c : Config
-      c = record { block = (config e (here .state)) .block; store = values }
+      abbrev pub held : Config
+      held = record { block = (config e (here .state)) .block; store = values }
 
-      same-config : config e (here .state) ≡ c
+      pub same-config : config e (here .state) ≡ held
       same-config = ap (λ (s : List ℕ). record { block = (config e (here .state)) .block; store = s }) (config-store e (w (steps e)) (here .state) (here .holds))
 
-      sound-config : SoundConfig (okOf hd) (hd .k) c
+      pub sound-config : SoundConfig (okOf hd) (hd .k) held
       sound-config = subst (SoundConfig (okOf hd) (hd .k)) same-config (config-sound e (w (steps e)) (here .state) (here .holds))
+
+      -- its block is the one that the stepper holds, and its numbers take 4 bytes
+      pub block-held : HoldsBlock hd P e ((w (steps e)) .memory) (held .block)
+      block-held = config-block e (w (steps e)) (here .state) (here .holds)
+
+      pub held-words : BlockWords (held .block)
+      held-words = block-words (okOf hd) (ok-word hd (given .header)) (hd .k) (held .block) (omega (arith, given .header .k-high)) (sound-config .variables .block) (sound-config .literals)
 
       -- it is as many steps from the start as the total says
       pub config-reached : iterate (step (okOf hd)) ((w (steps e)) .total) (record { block = P; store = μ }) ≡ some (config e (here .state))
@@ -133,8 +142,8 @@ module _ (hd : Header) (P : Block) (μ : List ℕ) {cb : List ℕ} {cu : ℕ} (g
       abbrev t : Term
       t = stand reduces .state
 
-      same-state : (w (steps e)) .total ≡ (w reduces) .total → t ≡ stateOf (hd .k) c
-      same-state q = Option·some-injective t (stateOf (hd .k) c)
+      same-state : (w (steps e)) .total ≡ (w reduces) .total → t ≡ stateOf (hd .k) held
+      same-state q = Option·some-injective t (stateOf (hd .k) held)
           (sym (stand reduces .reached)
           ∙ ap (λ (n : ℕ). iterate (reduce (okOf hd)) n (stateOf (hd .k) (record { block = P; store = μ }))) (sym q)
           ∙ lock-steps (okOf hd) (hd .k) ((w (steps e)) .total) (record { block = P; store = μ }) (sound .variables)
@@ -146,35 +155,33 @@ module _ (hd : Header) (P : Block) (μ : List ℕ) {cb : List ℕ} {cu : ℕ} (g
           let within = sound-config .variables in
           let term = stand reduces .holds .term in
           let same = same-state q in
-          let lock : reduce (okOf hd) t ≡ onNext (stateOf (hd .k)) (step (okOf hd) c) = ap (reduce (okOf hd)) same ∙ lock-step (okOf hd) (hd .k) c within in
-          let end : c .block ≡ empty → t ≡ tuple (map num values) =
+          let lock : reduce (okOf hd) t ≡ onNext (stateOf (hd .k)) (step (okOf hd) held) = ap (reduce (okOf hd)) same ∙ lock-step (okOf hd) (hd .k) held within in
+          let end : held .block ≡ empty → t ≡ tuple (map num values) =
           λ z. same ∙ ap (λ b. stateOf (hd .k) (record { block = b; store = values })) z ∙ finished-state (hd .k) values (within .size) in
           record {
-            Q = c .block;
+            Q = held .block;
             t = t;
-            stepperHolds = config-block e (w (steps e)) (here .state) (here .holds);
+            stepperHolds = block-held;
             reducerHolds = term .bytes;
-            programWords = block-words (okOf hd) (ok-word hd (given .header)) (hd .k) (c .block) (omega (arith, given .header .k-high)) (within .block) (sound-config .literals);
+            programWords = held-words;
             termWords = term-words term;
-            states = term .bytes ∙ ap (encodeTerm hd) (same ∙ state-is (hd .k) c);
-            finishedBoth = ((λ z. (map num values, end z)), (λ l. finished-block (hd .k) (c .block) values (l .0) (sym same ∙ l .1)));
-            overBoth = ((λ o. lock ∙ over-onNext (stateOf (hd .k)) (step (okOf hd) c) o), (λ o. onNext-over (stateOf (hd .k)) (step (okOf hd) c) (sym lock ∙ o)));
+            states = term .bytes ∙ ap (encodeTerm hd) (same ∙ state-is (hd .k) held);
+            finishedBoth = ((λ z. (map num values, end z)), (λ l. finished-block (hd .k) (held .block) values (l .0) (sym same ∙ l .1)));
+            overBoth = ((λ o. lock ∙ over-onNext (stateOf (hd .k)) (step (okOf hd) held) o), (λ o. onNext-over (stateOf (hd .k)) (step (okOf hd) held) (sym lock ∙ o)));
             sameValues = end;
           }
 
     -- what no row refuses, of a buffer that begins with the program's record
     pub lent-own : (buf : List ℕ) → take (length (encodeProgram hd P)) buf ≡ encodeProgram hd P → length buf ≤ 16384 → nesting P ≤ 32
-        → Accepts hd P buf (length (encodeProgram hd P)) ((w (steps counted)) .memory .words) ((w (steps counted)) .memory .store) (stand (steps counted) .state .state)
+        → Passes hd P buf (length (encodeProgram hd P)) ((w (steps counted)) .memory .words) ((w (steps counted)) .memory .store) (stand (steps counted) .state .state)
     lent-own buf e low deep = record {
-      passes = record {
-        program = begins hd P given buf e;
-        low = low;
-        deep = deep;
-        count = sound-config counted .variables .size;
-        state = stand (steps counted) .holds .state;
-      };
-      fit = stand (steps counted) .holds .words;
+      program = begins hd P given buf e;
+      low = low;
+      deep = deep;
+      count = sound-config counted .variables .size;
+      state = stand (steps counted) .holds .state;
       values = sound-config counted .values;
+      small = stand (steps counted) .holds .small;
     }
 
     pub refuses : Refuses hd P w
@@ -186,11 +193,13 @@ module _ (hd : Header) (P : Block) (μ : List ℕ) {cb : List ℕ} {cu : ℕ} (g
         let term = stand reduces .holds .term in
         record {
           stepperUsed = λ used xs budget ne e. ne (stepper-takes program used xs (sym (stepper-number (m .buf) used xs budget) ∙ e) .same);
-          stepperStore = λ used xs budget ne e. ne (stepper-takes program used xs (sym (stepper-number (m .buf) used xs budget) ∙ e) .values);
+          stepperStore = λ used xs budget ne e. ne (stepper-takes program used xs (sym (stepper-number (m .buf) used xs budget) ∙ e) .count);
+          stepperValues = λ used xs budget n among above e. not-small (largestOf hd) xs n among above (stepper-takes program used xs (sym (stepper-number (m .buf) used xs budget) ∙ e) .values);
           countingUsed = λ buf used xs budget e ne z. ne (counted-takes hd P given buf used (n .words) xs budget e z .same);
           countingStore = λ buf used xs budget e ne z. ne (counted-takes hd P given buf used (n .words) xs budget e z .count);
+          countingValues = λ buf used xs budget e k among above z. not-small (largestOf hd) xs k among above (counted-takes hd P given buf used (n .words) xs budget e z .values);
           reducerUsed = λ used budget ne e. ne (reducer-takes term used (sym (reducer-number (l .buf) used budget) ∙ e) .same);
-          stepperTakes = λ budget low. stepper-number (m .buf) (m .used) (m .store) budget ∙ stepper-passes program low (m .store) (sound-config recorded .variables .size);
+          stepperTakes = λ budget low. stepper-number (m .buf) (m .used) (m .store) budget ∙ stepper-passes program low (m .store) (sound-config recorded .variables .size) (sound-config recorded .values);
           countingTakes = λ buf budget e low deep. counting-ran (lent-own buf e low deep) budget .ran .number;
           reducerTakes = λ budget low. reducer-number (l .buf) (l .used) budget ∙ reducer-passes term low;
         }
@@ -200,7 +209,7 @@ module _ (hd : Header) (P : Block) (μ : List ℕ) {cb : List ℕ} {cu : ℕ} (g
 module _ (hd : Header) (P : Block) (μ : List ℕ) (s : Start hd P μ) where
   -- the header, and the program's record, in the buffer that the checker accepted
   pub accepted-program : ProgramIn hd P (s .checkBuf) (s .checkUsed)
-  accepted-program = program-holds hd P (s .checkBuf) (s .checkUsed) (s .checked) (s .program) (s .programWords)
+  accepted-program = program-holds hd P (s .checkBuf) (s .checkUsed) (s .checked) (s .program) (s .programWords) (s .ceilingWord)
 
   -- an accepted store has k values
   accepted-store : length μ ≡ hd .k
@@ -210,7 +219,7 @@ module _ (hd : Header) (P : Block) (μ : List ℕ) (s : Start hd P μ) where
   first = record {
     variables = record { block = accepted-program .isProgram .variables; size = accepted-store };
     literals = accepted-program .isProgram .literals;
-    values = s .storeValues;
+    values = stored-values hd (translate (hd .k) P) (s .termBuf) (s .termUsed) μ (accepted-program .header) (s .term) (s .substituted);
   }
 
   pub reducer-term : TermIn noVars hd (stateOf (hd .k) (record { block = P; store = μ })) (s .reducerBuf) (s .reducerUsed)
@@ -234,7 +243,7 @@ module _ (hd : Header) (P : Block) (μ : List ℕ) (s : Start hd P μ) where
     holds = record {
       state = decode-start P;
       store = refl;
-      words = zero-words 189;
+      small = tt;
       sound = subst (SoundConfig (okOf hd) (hd .k)) (sym (first-config hd P μ accepted-program counted)) first;
     };
   }
@@ -245,7 +254,7 @@ module _ (hd : Header) (P : Block) (μ : List ℕ) (s : Start hd P μ) where
   }
 
   -- after a list
-  pub list-stands : (os : List Order) → AllAllowed (hd .k) (encodeProgram hd P) os → (e : Engine) → StandsFrom hd P μ accepted-program e (play (startWorld hd P μ s) os)
+  pub list-stands : (os : List Order) → AllAllowed hd (encodeProgram hd P) os → (e : Engine) → StandsFrom hd P μ accepted-program e (play (startWorld hd P μ s) os)
   list-stands os a e = stands hd P μ accepted-program e os (startWorld hd P μ s) a (start-stands e)
 
 -- THE THEOREMS
@@ -266,13 +275,13 @@ demand3-refusals hd P μ s os a = refuses hd P μ (accepted-program hd P μ s) (
 
 -- from a world u that is a start's
 agreed-from : (hd : Header) (P : Block) (μ : List ℕ) (u v : World) (s : (x : Start hd P μ) × (startWorld hd P μ x ≡ v)) → u ≡ v
-    → (os : List Order) → AllAllowed (hd .k) (encodeProgram hd P) os → (w : World) → w ≡ play u os → (e : Stepper) → Agreed hd P e w
+    → (os : List Order) → AllAllowed hd (encodeProgram hd P) os → (w : World) → w ≡ play u os → (e : Stepper) → Agreed hd P e w
 unfolding Demand3Either Agreement
 agreed-from hd P μ u v s uv os a w ew e = subst (Agreed hd P e) (sym (ew ∙ ap (λ (x : World). play x os) (uv ∙ sym (s .1)))) (demand3-either e hd P μ (s .0) os a)
 
 pub demand3-calls : Demand3Calls
 unfolding Demand3Calls
-demand3-calls k cb cu hb checked out tw te tz μ hμ sw se sz sb hs rb fits hr os a w ew =
+demand3-calls k cb cu hb checked out tw te tz μ sw se sz sb hs rb fits hr os a w ew =
     let p = (check-program k cb cu hb) .0 checked in
     let P : Block = programOf cb cu in
     let hd : Header = headerOf cb cu in
@@ -281,11 +290,12 @@ demand3-calls k cb cu hb checked out tw te tz μ hμ sw se sz sb hs rb fits hr o
     let is-k : k ≡ hd .k = sym (program-k (p .1 .3) ∙ p .1 .2) in
     let is-checked : checkProgram cb cu ≡ record { number = 0; k = hd .k } = checked ∙ ap (λ (n : ℕ). record { number = 0; k = n }) is-k in
     let term : TermLent hd P (tw .written) (tw .used) =
-    subst (λ (x : Wrote). TermLent hd P (x .written) (x .used)) (sym te) (translates hd P cb cu is-checked (h .bytes) (program-words h) out (sym (ap (λ (x : Wrote). x .number) te) ∙ tz)) in
+    subst (λ (x : Wrote). TermLent hd P (x .written) (x .used)) (sym te) (translates hd P cb cu is-checked (h .bytes) (program-words h) (h .header .largest-word) out (sym (ap (λ (x : Wrote). x .number) te) ∙ tz)) in
     let size = stored-size hd (translate (hd .k) P) (tw .written) (tw .used) μ (h .header) (term .bytes) (sym (ap (λ (x : Substituted). x .number) se) ∙ sz) in
-    let s = engines-take hd P cb cu is-checked (h .bytes) (program-words h) μ size hμ .start (tw .written) (tw .used) term sb hs rb
+    let small = stored-values hd (translate (hd .k) P) (tw .written) (tw .used) μ (h .header) (term .bytes) (sym (ap (λ (x : Substituted). x .number) se) ∙ sz) in
+    let s = engines-take hd P cb cu is-checked (h .bytes) (program-words h) (h .header .largest-word) μ size small .start (tw .written) (tw .used) term sb hs rb
     (subst (λ (x : Substituted). x .used ≤ length rb) se fits) (subst (λ (x : Substituted). take (x .used) rb ≡ take (x .used) (x .written)) se hr) in
     let m : RecordedMemory = record { buf = sb; used = cu; store = μ } in
-    let allowed : AllAllowed (hd .k) (encodeProgram hd P) os = subst (λ (b : List ℕ). AllAllowed (hd .k) b os) (h .bytes) (subst (λ (n : ℕ). AllAllowed n (take cu cb) os) is-k a) in
+    let allowed : AllAllowed hd (encodeProgram hd P) os = subst (λ (b : List ℕ). AllAllowed hd b os) (h .bytes) a in
     agreed-from hd P μ (begun m (record { buf = rb; used = sw .used; replaced = 0 })) (begun m (record { buf = rb; used = (substituteCall (tw .written) (tw .used) μ) .used; replaced = 0 }))
     s (ap (λ (x : Substituted). begun m (record { buf = rb; used = x .used; replaced = 0 })) se) os allowed w ew

@@ -5,7 +5,7 @@ use mathlib.Core.List.{List}
 use lib.ListN.{length, take}
 use native.Mathlib.Omega.{arith}
 use Rattle.counting.specs.Counting.{Counting, State, expand, expandConfig}
-use Rattle.counting.specs.CountingMeaning.{Accepts}
+use Rattle.counting.specs.CountingMeaning.{Passes}
 use Rattle.counting.specs.CountingRan.{WroteExpansion}
 use Rattle.counting.proofs.ExpandCallLaws.{expand-takes, expand-ten, expand-writes, expand-wrote}
 use Rattle.record.specs.Answers.{Wrote}
@@ -19,6 +19,7 @@ use Rattle.agreement.specs.GoingBack.{GoesOn, GoingBack, WritesOut, Writ
 use Rattle.agreement.specs.Orders.{Engine, World, change, counted, play, recorded, reduces, steps}
 use Rattle.agreement.proofs.Demand3Laws.{accepted-program, agrees, config, config-reached, first, lent-own, list-stands, refuses}
 use Rattle.agreement.proofs.Play.{StandsFrom, accepts, begins, stands}
+use Rattle.agreement.proofs.TogetherLaws.{stop-together}
 
 -- what was written fits
 wrote-fits : {hd : Header} {s : State} {out : List ℕ} {r : Wrote} → WroteExpansion hd s out r → length (encodeProgram hd (expand s)) ≤ length out
@@ -36,7 +37,7 @@ module _ (hd : Header) (P : Block) (μ : List ℕ) {cb : List ℕ} {cu : ℕ} (g
         accepts = λ buf out e low deep lo.
             let a = lent-own hd P μ given sound w stand buf e low deep in
             ((λ z. wrote-fits (expand-wrote a out z)), (λ f. expand-writes a out lo f .number));
-        ten = λ buf out e low deep lo. expand-ten (lent-own hd P μ given sound w stand buf e low deep .passes) out lo;
+        ten = λ buf out e low deep lo. expand-ten (lent-own hd P μ given sound w stand buf e low deep) out lo;
       }
 
   goes-on : (w : World) → ((e : Engine) → StandsFrom hd P μ given e w) → GoesOn hd P μ w
@@ -53,6 +54,7 @@ module _ (hd : Header) (P : Block) (μ : List ℕ) {cb : List ℕ} {cu : ℕ} (g
         agrees = agrees hd P μ given sound w stand;
         refuses = refuses hd P μ given sound w stand;
         writesOut = writes-out w stand;
+        together = stop-together hd P μ given sound w stand;
       }
 
   -- AFTER AN ACCEPTED WRITING OUT
@@ -62,7 +64,7 @@ module _ (hd : Header) (P : Block) (μ : List ℕ) {cb : List ℕ} {cu : ℕ} (g
     abbrev c : Counting
     c = stand (steps counted) .state
 
-    lent : Accepts hd P buf used ((w (steps counted)) .memory .words) ((w (steps counted)) .memory .store) (c .state)
+    lent : Passes hd P buf used ((w (steps counted)) .memory .words) ((w (steps counted)) .memory .store) (c .state)
     lent =
         accepts hd P given (w (steps counted)) c (stand (steps counted) .holds) buf begun used
         (expand-takes (begins hd P given buf begun) used ((w (steps counted)) .memory .words) ((w (steps counted)) .memory .store) out accepted .0)

@@ -3,6 +3,7 @@ pub mod Demand2Laws
 pub mod Play
 pub mod StartLaws
 pub mod Demand3Laws
+pub mod TogetherLaws
 pub mod GoingBackLaws
 pub mod ExamplesLaws
 pub mod AddStepsLaws

@@ -10,11 +10,11 @@ use native.Mathlib.Omega.{arith}
 use Rattle.counting.specs.CountStep.{countStep}
 use Rattle.counting.specs.Counting.{Counting, expandConfig, start}
 use Rattle.counting.specs.CountingCall.{countingRows, runCounting}
-use Rattle.counting.specs.CountingMeaning.{Accepts}
-use Rattle.counting.specs.CountingRan.{Words}
+use Rattle.counting.specs.CountingMeaning.{Passes}
 use Rattle.counting.specs.ReadState.{right}
+use Rattle.counting.specs.SmallState.{SmallState}
 use Rattle.counting.specs.StateWords.{decodeState}
-use Rattle.counting.proofs.CountingRanLaws.{CountingTakes, counting-number, counting-ran, counting-refused, counting-rows, counting-takes}
+use Rattle.counting.proofs.CountingRanLaws.{CountingTakes, counting-number, counting-ran, counting-refused, counting-rows, counting-takes, takes-passes}
 use Rattle.record.specs.declared.Header.{Header}
 use Rattle.record.specs.Header.{encodeProgram, okOf}
 use Rattle.record.specs.Holding.{ProgramIn, TermIn}
@@ -164,7 +164,7 @@ module _ (hd : Header) where
         holds = record { program = subst (ProgramIn hd (r .c .block) (call .buf)) (sym used) (r .again); store = r .values; sound = r .sound };
       }
 
-  recorded-order : (s : Standing RecordedMemory) (used : ℕ) (lent : Lent) (budget : ℕ) (c : Config) → AllowedLent (hd .k) lent → RecordedHolds s c
+  recorded-order : (s : Standing RecordedMemory) (used : ℕ) (lent : Lent) (budget : ℕ) (c : Config) → AllowedLent hd lent → RecordedHolds s c
       → RecordedMoved s (record { used = used; lent = lent; budget = budget }) c
   unfolding played valuesLent
   recorded-order s used own budget c a h =
@@ -175,18 +175,18 @@ module _ (hd : Header) where
       (ap (playedRecorded (s .memory) own) (stepper-refused (s .memory .buf) used (s .memory .store) budget n) ∙ recorded-refused (s .memory) own _ n))
   recorded-order s used (other xs) budget c a h =
       by-number (firstRow (stepperRows (s .memory .buf) used xs))
-      (λ z. absurd (a (stepper-takes (h .program) used xs z .values)))
+      (λ z. let t = stepper-takes (h .program) used xs z in absurd (a (t .count) (t .values)))
       (λ n. stays (steps recorded) (step (okOf hd)) RecordedHolds s (record { used = used; lent = other xs; budget = budget }) c h
       (ap (playedRecorded (s .memory) (other xs)) (stepper-refused (s .memory .buf) used xs budget n) ∙ recorded-refused (s .memory) (other xs) _ n))
 
 -- THE COUNTING STEPPER, of the program P, whose record some buffer holds
 
 module _ (hd : Header) (P : Block) {cb : List ℕ} {cu : ℕ} (given : ProgramIn hd P cb cu) where
-  -- a state of the program whose words are below 2^32, and which expands to a sound configuration
+  -- a state of the program whose counts pass, and which expands to a sound configuration
   pub record CountedHolds (s : Standing CountedMemory) (c : Counting) : Type 0 where
     pub state : decodeState P (s .memory .words) ≡ right (c .state)
     pub store : s .memory .store ≡ c .store
-    pub words : Words (s .memory .words)
+    pub small : SmallState (okOf hd) (c .state)
     pub sound : SoundConfig (okOf hd) (hd .k) (expandConfig c)
 
   abbrev CountedMoved : Standing CountedMemory → OrderTo (steps counted) → Counting → Type 0
@@ -203,13 +203,8 @@ module _ (hd : Header) (P : Block) {cb : List ℕ} {cu : ℕ} (given : ProgramIn
 
   -- what no row refuses, of such a buffer with the words and the store that it holds
   pub accepts : (s : Standing CountedMemory) (c : Counting) → CountedHolds s c → (buf : List ℕ) → take long buf ≡ encodeProgram hd P
-      → (n : ℕ) → CountingTakes hd P buf long n (s .memory .words) (s .memory .store) → Accepts hd P buf n (s .memory .words) (s .memory .store) (c .state)
-  unfolding expandConfig
-  accepts s c h buf e n t = record {
-    passes = record { program = subst (ProgramIn hd P buf) (sym (t .same)) (begins buf e); low = t .low; deep = t .deep; count = t .count; state = h .state };
-    fit = h .words;
-    values = subst (SmallValues (okOf hd)) (sym (h .store)) (h .sound .values);
-  }
+      → (n : ℕ) → CountingTakes hd P buf long n (s .memory .words) (s .memory .store) → Passes hd P buf n (s .memory .words) (s .memory .store) (c .state)
+  accepts s c h buf e n t = takes-passes (begins buf e) n (s .memory .words) (s .memory .store) t (c .state) (h .state)
 
   counted-refused : (m : CountedMemory) (lent : Lent) (n : ℕ)
       → playedCounted m lent (record { answer = refusal n; words = m .words; store = valuesLent lent (m .store) }) ≡ record { memory = m; count = 0 }
@@ -229,7 +224,7 @@ module _ (hd : Header) (P : Block) {cb : List ℕ} {cu : ℕ} (given : ProgramIn
       record {
         state = r .c;
         stepped = ap (iterate (countStep (okOf hd)) (call .answer .steps)) (sym begin) ∙ r .ran .stepped;
-        holds = record { state = r .reads; store = r .values; words = r .fit; sound = r .sound };
+        holds = record { state = r .reads; store = r .values; small = r .small; sound = r .sound };
       }
 
   -- what its rows let through
@@ -237,7 +232,7 @@ module _ (hd : Header) (P : Block) {cb : List ℕ} {cu : ℕ} (given : ProgramIn
       → (runCounting buf used words store budget) .answer .number ≡ 0 → CountingTakes hd P buf long used words store
   counted-takes buf used words store budget e z = counting-takes (begins buf e) used words store (counting-rows buf used words store budget z)
 
-  counted-order : (s : Standing CountedMemory) (buf : List ℕ) (used : ℕ) (lent : Lent) (budget : ℕ) (c : Counting) → AllowedLent (hd .k) lent
+  counted-order : (s : Standing CountedMemory) (buf : List ℕ) (used : ℕ) (lent : Lent) (budget : ℕ) (c : Counting) → AllowedLent hd lent
       → take long buf ≡ encodeProgram hd P → CountedHolds s c → CountedMoved s (record { buf = buf; used = used; lent = lent; budget = budget }) c
   unfolding played valuesLent
   counted-order s buf used own budget c a e h =
@@ -249,7 +244,7 @@ module _ (hd : Header) (P : Block) {cb : List ℕ} {cu : ℕ} (given : ProgramIn
   counted-order s buf used (other xs) budget c a e h =
       let m : CountedMemory = s .memory in
       by-number (firstRow (countingRows buf used (m .words) xs))
-      (λ z. absurd (a (counted-takes buf used (m .words) xs budget e (counting-number buf used (m .words) xs budget ∙ z) .count)))
+      (λ z. let t = counted-takes buf used (m .words) xs budget e (counting-number buf used (m .words) xs budget ∙ z) in absurd (a (t .count) (t .values)))
       (λ n. stays (steps counted) (countStep (okOf hd)) CountedHolds s (record { buf = buf; used = used; lent = other xs; budget = budget }) c h
       (ap (playedCounted m (other xs)) (counting-refused buf used (m .words) xs budget n) ∙ counted-refused m (other xs) _))
 
@@ -338,11 +333,11 @@ module _ (hd : Header) (P : Block) (μ : List ℕ) {cb : List ℕ} {cu : ℕ} (g
   abbrev pub StandsFrom : (e : Engine) → World → Type 0
   StandsFrom e = StandsIn e (machine (okOf hd) e) (Holds e) (starts e)
 
-  order-to : (e : Engine) (s : Standing (Memory e)) (o : OrderTo e) (a : At e) → Allowed (hd .k) (encodeProgram hd P) (to e o) → Holds e s a
+  order-to : (e : Engine) (s : Standing (Memory e)) (o : OrderTo e) (a : At e) → Allowed hd (encodeProgram hd P) (to e o) → Holds e s a
       → Moved e (machine (okOf hd) e) (Holds e) s o a
   order-to (steps recorded) s o c a h = recorded-order hd s (o .used) (o .lent) (o .budget) c a h
   order-to (steps counted) s o c a h = counted-order hd P given s (o .buf) (o .used) (o .lent) (o .budget) c (a .0) (a .1) h
   order-to reduces s o t a h = reducer-order hd (starts reduces) s o t a h
 
-  pub stands : (e : Engine) (os : List Order) (w : World) → AllAllowed (hd .k) (encodeProgram hd P) os → StandsFrom e w → StandsFrom e (play w os)
-  stands e = stands-in e (machine (okOf hd) e) (Holds e) (Allowed (hd .k) (encodeProgram hd P)) (order-to e) (starts e)
+  pub stands : (e : Engine) (os : List Order) (w : World) → AllAllowed hd (encodeProgram hd P) os → StandsFrom e w → StandsFrom e (play w os)
+  stands e = stands-in e (machine (okOf hd) e) (Holds e) (Allowed hd (encodeProgram hd P)) (order-to e) (starts e)

@@ -1,20 +1,18 @@
 -- The engines take every store of k values that pass, and with it demand 3 starts.
-use Prim.Native.Nat.{suc, zero, ℕ, _≤_}
+use Prim.Native.Nat.{_<_, ℕ, _≤_}
 use mathlib.Core.Path.{ap, refl, subst, sym, _∙_, _≡_}
 use mathlib.Core.List.{List}
-use lib.Dec.{lit<}
 use lib.ListN.{length, replicate, take}
 use native.Mathlib.Omega.{arith}
 use Rattle.counting.specs.Counting.{start as begin}
 use Rattle.counting.specs.CountingCall.{countingRows, runCounting}
 use Rattle.counting.specs.CountingMeaning.{Passes}
-use Rattle.counting.specs.CountingRan.{Words}
 use Rattle.counting.specs.Depth.{nesting}
 use Rattle.counting.proofs.CountingRanLaws.{counting-number, counting-passes}
 use Rattle.counting.proofs.StateWordsLaws.{decode-start}
 use Rattle.record.specs.Answers.{Checked, Wrote, checkProgram, padded}
 use Rattle.record.specs.declared.Header.{Header}
-use Rattle.record.specs.Header.{encodeProgram, encodeTerm, okOf}
+use Rattle.record.specs.Header.{encodeProgram, encodeTerm, largestOf, okOf}
 use Rattle.record.specs.Holding.{ProgramIn, TermIn}
 use Rattle.record.specs.Program.{BlockWords}
 use Rattle.rules.specs.FreeVariables.{allVars, noVars}
@@ -36,18 +34,14 @@ use Rattle.term.proofs.CallLaws.{substitute-gives, substitute-size, translate-h
 use Rattle.agreement.specs.Demand3.{Start}
 use Rattle.agreement.specs.WeighedStore.{EnginesTake, TermLent}
 
-pub zero-words : (n : ℕ) → Words (replicate n 0)
-zero-words zero = tt
-zero-words (suc n) = (lit< tt, zero-words n)
-
 -- OF A PROGRAM that the checker accepts
 module _ (h : Header) (P : Block) (cb : List ℕ) (cu : ℕ) (checked : checkProgram cb cu ≡ record { number = 0; k = h .k })
-    (program : take cu cb ≡ encodeProgram h P) (words : BlockWords P) where
+    (program : take cu cb ≡ encodeProgram h P) (words : BlockWords P) (word : largestOf h < 4294967296) where
   accepted : (checkProgram cb cu) .number ≡ 0
   accepted = ap (λ (c : Checked). c .number) checked
 
   pub program-holds : ProgramIn h P cb cu
-  program-holds = checked-holds h P cb cu (checked-fits h cb cu checked) accepted program words
+  program-holds = checked-holds h P cb cu (checked-fits h cb cu checked word) accepted program words
 
   pub translates : (out : List ℕ) → (translateCall cb cu out) .number ≡ 0 → TermLent h P ((translateCall cb cu out) .written) ((translateCall cb cu out) .used)
   translates out z =
@@ -81,7 +75,7 @@ module _ (h : Header) (P : Block) (cb : List ℕ) (cu : ℕ) (checked : checkPro
       }
 
       gives : substituteCall buf used μ ≡ record { number = 0; used = used; replaced = replaced (fromStore μ) (translate (h .k) P); written = padded (length buf) (encodeTerm h closedTerm) }
-      gives = substitute-gives term (t .low) μ size
+      gives = substitute-gives term (t .low) μ size values
 
       closed-in : TermIn noVars h closedTerm (padded (length buf) (encodeTerm h closedTerm)) used
       closed-in =
@@ -111,11 +105,11 @@ module _ (h : Header) (P : Block) (cb : List ℕ) (cu : ℕ) (checked : checkPro
         checked = checked;
         program = program;
         programWords = words;
+        ceilingWord = word;
         termBuf = buf;
         termUsed = used;
         term = t .bytes;
         substituted = ap (λ (w : Substituted). w .number) gives;
-        storeValues = values;
         stepperBuf = stepperBuf;
         stepperBegins = begins ∙ program;
         reducerBuf = reducerBuf;
@@ -133,14 +127,16 @@ module _ (h : Header) (P : Block) (cb : List ℕ) (cu : ℕ) (checked : checkPro
           deep = deep;
           count = size;
           state = decode-start P;
+          values = values;
+          small = tt;
         } in
         counting-number buf cu (replicate 189 0) μ budget
-        ∙ none-first (countingRows buf cu (replicate 189 0) μ) (counting-passes lent (replicate 189 0) μ (begin P) (decode-start P) size)
+        ∙ none-first (countingRows buf cu (replicate 189 0) μ) (counting-passes lent)
 
     pub engines-take : EnginesTake h P cb cu μ
     unfolding start
     engines-take = record {
-      stepper = λ buf budget l e. stepper-number buf cu μ budget ∙ stepper-passes (program-elsewhere program-holds buf (e ∙ program)) l μ size;
+      stepper = λ buf budget l e. stepper-number buf cu μ budget ∙ stepper-passes (program-elsewhere program-holds buf (e ∙ program)) l μ size values;
       counting = counts;
       substitutes = λ buf used t. ap (λ (w : Substituted). w .number) (gives buf used t);
       translates = translates;

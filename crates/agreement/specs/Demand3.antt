@@ -1,6 +1,6 @@
 -- DEMAND 3, WHOLE: no list of run orders, in any mixture, with any budgets, refused ones included, can part the engines. One
 -- statement about an entire list. It is said of either stepper (02 C-14): of 01's, and of the one that carries loops as counts.
-use Prim.Native.Nat.{ℕ, _≤_}
+use Prim.Native.Nat.{_<_, ℕ, _≤_}
 use mathlib.Core.Path.{_≡_}
 use mathlib.Core.Logic.{_↔_}
 use mathlib.Core.List.{List, map}
@@ -13,13 +13,13 @@ use Rattle.counting.specs.ReadState.{right}
 use Rattle.counting.specs.StateWords.{decodeState}
 use Rattle.record.specs.Answers.{Wrote, checkProgram}
 use Rattle.record.specs.declared.Header.{Header}
-use Rattle.record.specs.Header.{encodeProgram, encodeTerm, okOf}
+use Rattle.record.specs.Header.{encodeProgram, encodeTerm, largestOf, okOf}
 use Rattle.record.specs.Program.{BlockWords}
 use Rattle.record.specs.Rows.{headerOf, programOf}
 use Rattle.record.specs.Term.{TermWords}
 use Rattle.reducer.specs.RunReducer.{runReducer}
+use Rattle.rules.specs.Literals.{Among}
 use Rattle.rules.specs.Reduction.{reduce}
-use Rattle.rules.specs.Sound.{SmallValues}
 use Rattle.rules.specs.Step.{step}
 use Rattle.rules.specs.Substitution.{fromStore, substitute}
 use Rattle.rules.specs.Syntax.{Atom, Block, Term, empty, num, over, tuple}
@@ -30,19 +30,19 @@ use Rattle.agreement.specs.Orders.{AllAllowed, Memory, Order, RecordedMe
 
 -- THE START: the header, the program P, the store μ; the buffers that they are accepted in, and the stepper's and the reducer's buffers.
 pub record Start (h : Header) (P : Block) (μ : List ℕ) : Type 0 where
-  -- the program is accepted: it stands in some buffer, and the checker returns 0 and k. Its numbers take 4 bytes, so that
-  -- its bytes are no other program's
+  -- the program is accepted: it stands in some buffer, and the checker returns 0 and k. Its numbers and the ceiling take 4 bytes, so
+  -- that its bytes are no other program's and no other header's
   pub checkBuf : List ℕ
   pub checkUsed : ℕ
   pub checked : checkProgram checkBuf checkUsed ≡ record { number = 0; k = h .k }
   pub program : take checkUsed checkBuf ≡ encodeProgram h P
   pub programWords : BlockWords P
+  pub ceilingWord : largestOf h < 4294967296
   -- the start store is accepted: substituting it in the program's term, which stands in some buffer, returns 0
   pub termBuf : List ℕ
   pub termUsed : ℕ
   pub term : take termUsed termBuf ≡ encodeTerm h (translate (h .k) P)
   pub substituted : (substituteCall termBuf termUsed μ) .number ≡ 0
-  pub storeValues : SmallValues (okOf h) μ
   -- the stepper's buffer: any buffer, of any length, that begins with the program's record
   pub stepperBuf : List ℕ
   pub stepperBegins : take checkUsed stepperBuf ≡ encodeProgram h P
@@ -74,7 +74,7 @@ Finished Q = Q ≡ empty
 abbrev pub FinishedTerm : Term → Type 0
 FinishedTerm t = (l : List Atom) × (t ≡ tuple l)
 
--- Over: the next step would give a value too large.
+-- Over: the next step would give a value too large, which is one above the ceiling (02 C-17).
 abbrev pub Over : Header → Block → List ℕ → Type 0
 Over h Q μ = step (okOf h) (record { block = Q; store = μ }) ≡ over
 
@@ -111,7 +111,7 @@ Agreed h P e w = (w (steps e)) .total ≡ (w reduces) .total → Agree h P e ((w
 
 -- For every start and after every list of orders.
 unfoldable pub Agreement : Stepper → Type 0
-Agreement e = (h : Header) (P : Block) (μ : List ℕ) (s : Start h P μ) (os : List Order) → AllAllowed (h .k) (encodeProgram h P) os
+Agreement e = (h : Header) (P : Block) (μ : List ℕ) (s : Start h P μ) (os : List Order) → AllAllowed h (encodeProgram h P) os
     → Agreed h P e (play (startWorld h P μ s) os)
 
 -- 01's demand: of its stepper and the reducer, whatever else is ordered between.
@@ -133,12 +133,18 @@ pub record Refuses (h : Header) (P : Block) (w : World) : Type 0 where
   -- other than k values
   pub stepperStore : (used : ℕ) (xs : List ℕ) (budget : ℕ) → (length xs ≡ h .k → ⊥)
       → (runStepper ((w (steps recorded)) .memory .buf) used xs budget) .answer .number ≡ 0 → ⊥
+  -- a value above the ceiling (02 C-17)
+  pub stepperValues : (used : ℕ) (xs : List ℕ) (budget : ℕ) → (n : ℕ) → Among n xs → largestOf h < n
+      → (runStepper ((w (steps recorded)) .memory .buf) used xs budget) .answer .number ≡ 0 → ⊥
   -- another used length than the record's own, whatever store is lent
   pub countingUsed : (buf : List ℕ) (used : ℕ) (xs : List ℕ) (budget : ℕ) → take (length (encodeProgram h P)) buf ≡ encodeProgram h P
       → (used ≡ length (encodeProgram h P) → ⊥) → (runCounting buf used ((w (steps counted)) .memory .words) xs budget) .answer .number ≡ 0 → ⊥
   -- other than k values
   pub countingStore : (buf : List ℕ) (used : ℕ) (xs : List ℕ) (budget : ℕ) → take (length (encodeProgram h P)) buf ≡ encodeProgram h P
       → (length xs ≡ h .k → ⊥) → (runCounting buf used ((w (steps counted)) .memory .words) xs budget) .answer .number ≡ 0 → ⊥
+  -- a value above the ceiling
+  pub countingValues : (buf : List ℕ) (used : ℕ) (xs : List ℕ) (budget : ℕ) → take (length (encodeProgram h P)) buf ≡ encodeProgram h P
+      → (n : ℕ) → Among n xs → largestOf h < n → (runCounting buf used ((w (steps counted)) .memory .words) xs budget) .answer .number ≡ 0 → ⊥
   -- another used length than the reducer's last accepted order gave
   pub reducerUsed : (used budget : ℕ) → (used ≡ (w reduces) .memory .used → ⊥) → (runReducer ((w reduces) .memory .buf) used budget) .answer .number ≡ 0 → ⊥
   -- and no other order is, but where the buffer is above 16,384 bytes, and to the counting stepper where P is nested over 32 deep
@@ -151,7 +157,7 @@ pub record Refuses (h : Header) (P : Block) (w : World) : Type 0 where
 
 -- So it is for every start and after every list of orders.
 unfoldable pub Demand3Refusals : Type 0
-Demand3Refusals = (h : Header) (P : Block) (μ : List ℕ) (s : Start h P μ) (os : List Order) → AllAllowed (h .k) (encodeProgram h P) os
+Demand3Refusals = (h : Header) (P : Block) (μ : List ℕ) (s : Start h P μ) (os : List Order) → AllAllowed h (encodeProgram h P) os
     → Refuses h P (play (startWorld h P μ s) os)
 
 -- FROM THE REAL CALLS: check a program, translate it, substitute a store; then any buffers that begin with the records that
@@ -159,9 +165,9 @@ Demand3Refusals = (h : Header) (P : Block) (μ : List ℕ) (s : Start h P μ) (o
 unfoldable pub Demand3Calls : Type 0
 Demand3Calls = (k : ℕ) (cb : List ℕ) (cu : ℕ) → Bytes cb → checkProgram cb cu ≡ record { number = 0; k = k }
     → (out : List ℕ) (t : Wrote) → t ≡ translateCall cb cu out → t .number ≡ 0
-    → (μ : List ℕ) → SmallValues (okOf (headerOf cb cu)) μ → (s : Substituted) → s ≡ substituteCall (t .written) (t .used) μ → s .number ≡ 0
+    → (μ : List ℕ) (s : Substituted) → s ≡ substituteCall (t .written) (t .used) μ → s .number ≡ 0
     → (sb : List ℕ) → take cu sb ≡ take cu cb
     → (rb : List ℕ) → s .used ≤ length rb → take (s .used) rb ≡ take (s .used) (s .written)
-    → (os : List Order) → AllAllowed k (take cu cb) os
+    → (os : List Order) → AllAllowed (headerOf cb cu) (take cu cb) os
     → (w : World) → w ≡ play (begun (record { buf = sb; used = cu; store = μ }) (record { buf = rb; used = s .used; replaced = 0 })) os
     → (e : Stepper) → Agreed (headerOf cb cu) (programOf cb cu) e w

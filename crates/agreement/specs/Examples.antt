@@ -1,11 +1,12 @@
--- THE PROVED EXAMPLES P1 to P9 (01 "Bench loads"), with what 01 says of each: one list. `ExamplesLaws` has the one theorem, that
--- what an example shows is what is expected of it, on the rules themselves and over bytes through the calls.
+-- THE PROVED EXAMPLES P1 to P9 (01 "Bench loads"), with what 01 says of each, and two of edition 2 (02 C-17): one list. `ExamplesLaws`
+-- has the one theorem, that what an example shows is what is expected of it, on the rules themselves and over bytes through the calls.
 use Prim.Native.Nat.{ℕ}
 use mathlib.Core.Bool.{cond}
 use mathlib.Core.List.{List, [], _∷_}
 use lib.Dec.{eqb}
 use lib.ListN.{length, replicate, take}
 use Rattle.record.specs.Answers.{Checked, Stored, Wrote, checkProgram, padded}
+use Rattle.record.specs.declared.Edition.the-variants.{First, Second}
 use Rattle.record.specs.declared.Header.{Header}
 use Rattle.record.specs.Header.{encodeProgram, encodeTerm, okOf}
 use Rattle.reducer.specs.RunReducer.{ReducerCall, runReducer}
@@ -148,15 +149,19 @@ expected l = record {
 abbrev pub add : Block
 add = assign 3 (var 1) (loop 4 (uptoVar 2) (assign 3 (inc 3) empty) empty)
 
--- The header of a record of k variables.
+-- The header of edition 1 of a record of k variables.
 abbrev pub ofVariables : ℕ → Header
-ofVariables k = record { k = k }
+ofVariables k = record { k = k; edition = First }
 
--- An entry whose bytes 01 does not print: k, program, store, the lengths of the two buffers and of the two records, outcome,
+-- The header of edition 2, with a ceiling (02 C-17).
+abbrev pub withCeiling : ℕ → ℕ → Header
+withCeiling k ceiling = record { k = k; edition = Second ceiling }
+
+-- An entry whose bytes 01 does not print: header, program, store, the lengths of the two buffers and of the two records, outcome,
 -- steps, values.
-abbrev pub example : ℕ → Block → List ℕ → ℕ → ℕ → ℕ → ℕ → Outcome → ℕ → List ℕ → Example
-example k p s a b n m o c v = record {
-  header = ofVariables k;
+abbrev pub exampleUnder : Header → Block → List ℕ → ℕ → ℕ → ℕ → ℕ → Outcome → ℕ → List ℕ → Example
+exampleUnder h p s a b n m o c v = record {
+  header = h;
   program = p;
   store = s;
   stepperRoom = a;
@@ -168,7 +173,11 @@ example k p s a b n m o c v = record {
   ending = record { outcome = o; steps = c; values = v };
 }
 
--- P1 to P9, and one more against the last of 01's mistakes that pass a quick trial.
+-- The same of edition 1, from k.
+abbrev pub example : ℕ → Block → List ℕ → ℕ → ℕ → ℕ → ℕ → Outcome → ℕ → List ℕ → Example
+example k = exampleUnder (ofVariables k)
+
+-- P1 to P9, one more against the last of 01's mistakes that pass a quick trial, and two under a ceiling (02 C-17).
 unfoldable pub examples : List Example
 examples =
     -- P1, in the 156 and 384 bytes that it needs: finished, 18 steps; and with 155 and 383 both stop at 3 with no room
@@ -204,4 +213,8 @@ examples =
     }
     -- a let-one that rebinds a variable which is substituted above it: {x1 := x2; x2 := x1; {x1 := x1 + 1}} on 1, 5
     ∷ example 2 (assign 1 (var 2) (assign 2 (var 1) (nest (assign 1 (inc 1) empty) empty))) (1 ∷ 5 ∷ []) 400 400 64 104 isFinished 5 (6 ∷ 5 ∷ [])
+    -- ADD on P1's store under a ceiling of 10, which the sum comes to, each record and each buffer being 4 bytes longer than P1's
+    ∷ exampleUnder (withCeiling 4 10) add (7 ∷ 3 ∷ 0 ∷ 0 ∷ []) 160 388 68 176 isFinished 18 (7 ∷ 3 ∷ 10 ∷ 3 ∷ [])
+    -- and under a ceiling of 9: over after 15, when the third turn's plus one is next
+    ∷ exampleUnder (withCeiling 4 9) add (7 ∷ 3 ∷ 0 ∷ 0 ∷ []) 160 388 68 176 isOver 15 (7 ∷ 3 ∷ 9 ∷ 3 ∷ [])
     ∷ []

@@ -17,6 +17,7 @@ use Rattle.rules.specs.Step.{step}
 use Rattle.rules.specs.Syntax.{Block, Config}
 use Rattle.agreement.specs.Demand3.{Agreed, HoldsBlock, Refuses, Start, startWorld}
 use Rattle.agreement.specs.Orders.{AllAllowed, Order, Stepper, World, change, counted, play, recorded, steps}
+use Rattle.agreement.specs.Together.{StopTogether}
 
 -- What is written out of the counting stepper's state in the world w, a buffer with the program and an output buffer being lent.
 abbrev pub writtenOut : World → List ℕ → ℕ → List ℕ → Wrote
@@ -50,20 +51,21 @@ pub record WritesOut (h : Header) (P : Block) (w : World) : Type 0 where
 
 -- For every start and after every list of orders.
 unfoldable pub WritingOut : Type 0
-WritingOut = (h : Header) (P : Block) (μ : List ℕ) (s : Start h P μ) (os : List Order) → AllAllowed (h .k) (encodeProgram h P) os
+WritingOut = (h : Header) (P : Block) (μ : List ℕ) (s : Start h P μ) (os : List Order) → AllAllowed h (encodeProgram h P) os
     → WritesOut h P (play (startWorld h P μ s) os)
 
--- What is so after going back, as it is from the start: besides, demand 3's conclusions of either stepper, which orders are refused, and
--- when the state is written out again.
+-- What is so after going back, as it is from the start: besides, demand 3's conclusions of either stepper, which orders are refused, when
+-- the state is written out again, and that either stepper and the reducer stop for the ceiling together (02 C-17).
 pub record GoesOn (h : Header) (P : Block) (μ : List ℕ) (w : World) : Type 0 where
   pub noStepLost : NoStepLost h P μ w
   pub agrees : (e : Stepper) → Agreed h P e w
   pub refuses : Refuses h P w
   pub writesOut : WritesOut h P w
+  pub together : (e : Stepper) → StopTogether h P e w
 
 -- For every start: after any list of orders, its world being w, an accepted writing out, and any further list of orders.
 unfoldable pub GoingBack : Type 0
-GoingBack = (h : Header) (P : Block) (μ : List ℕ) (s : Start h P μ) (os : List Order) → AllAllowed (h .k) (encodeProgram h P) os
+GoingBack = (h : Header) (P : Block) (μ : List ℕ) (s : Start h P μ) (os : List Order) → AllAllowed h (encodeProgram h P) os
     → (w : World) → w ≡ play (startWorld h P μ s) os
     → (buf : List ℕ) (used : ℕ) (out : List ℕ) → take (length (encodeProgram h P)) buf ≡ encodeProgram h P → (writtenOut w buf used out) .number ≡ 0
-    → (ps : List Order) → AllAllowed (h .k) (encodeProgram h P) ps → GoesOn h P μ (play (wentBack w (writtenOut w buf used out)) ps)
+    → (ps : List Order) → AllAllowed h (encodeProgram h P) ps → GoesOn h P μ (play (wentBack w (writtenOut w buf used out)) ps)

@@ -2,6 +2,7 @@ pub mod Orders
 pub mod Demand1
 pub mod Demand2
 pub mod Demand3
+pub mod Together
 pub mod GoingBack
 pub mod Examples
 pub mod AddSteps

@@ -6,8 +6,11 @@ use mathlib.Core.Path.{_≡_}
 use mathlib.Core.List.{List}
 use lib.ListN.{length, take}
 use Rattle.counting.specs.CountingCall.{CountingCall, runCounting}
+use Rattle.record.specs.declared.Header.{Header}
+use Rattle.record.specs.Header.{okOf}
 use Rattle.reducer.specs.RunReducer.{ReducerCall, runReducer}
 use Rattle.rules.specs.Play.{Each, plays}
+use Rattle.rules.specs.Sound.{SmallValues}
 use Rattle.stepper.specs.RunStepper.{StepperCall, runStepper}
 
 -- THE ENGINES
@@ -188,22 +191,22 @@ play w os = plays order w os
 
 -- WHAT A LIST MAY HOLD: any used lengths and budgets, and
 
--- other values than the own are not k of them, and are refused;
-abbrev pub AllowedLent : ℕ → Lent → Type 0
-AllowedLent k own = Unit {0}
-AllowedLent k (other xs) = length xs ≡ k → ⊥
+-- other values than the own are not k of them, or one is above the ceiling, and they are refused;
+abbrev pub AllowedLent : Header → Lent → Type 0
+AllowedLent h own = Unit {0}
+AllowedLent h (other xs) = length xs ≡ h .k → SmallValues (okOf h) xs → ⊥
 
 -- each order to the counting stepper is lent a buffer that begins with the record of the start's program (02 C-14), whose bytes are
 -- given.
-abbrev pub AllowedTo : ℕ → List ℕ → (e : Engine) → OrderTo e → Type 0
-AllowedTo k program (steps recorded) o = AllowedLent k (o .lent)
-AllowedTo k program (steps counted) o = AllowedLent k (o .lent) × (take (length program) (o .buf) ≡ program)
-AllowedTo k program reduces o = Unit {0}
+abbrev pub AllowedTo : Header → List ℕ → (e : Engine) → OrderTo e → Type 0
+AllowedTo h program (steps recorded) o = AllowedLent h (o .lent)
+AllowedTo h program (steps counted) o = AllowedLent h (o .lent) × (take (length program) (o .buf) ≡ program)
+AllowedTo h program reduces o = Unit {0}
 
 -- The same of an order to any engine.
-abbrev pub Allowed : ℕ → List ℕ → Order → Type 0
-Allowed k program (to e o) = AllowedTo k program e o
+abbrev pub Allowed : Header → List ℕ → Order → Type 0
+Allowed h program (to e o) = AllowedTo h program e o
 
 -- Every order of the list is allowed.
-abbrev pub AllAllowed : ℕ → List ℕ → List Order → Type 0
-AllAllowed k program os = Each (Allowed k program) os
+abbrev pub AllAllowed : Header → List ℕ → List Order → Type 0
+AllAllowed h program os = Each (Allowed h program) os

@@ -1,5 +1,5 @@
--- "THE ENGINES TAKE THE STORE EITHER GIVES, where it has k values" (02 C-11, of the store that C-15 gives; either: of the two rules). Over
--- the calls, both rules at once.
+-- "THE ENGINES TAKE THE STORE EITHER GIVES, where it has k values" (02 C-11, of the store that C-15 gives; either: of the two rules); "the
+-- engines now take a weighed store whose values are within the ceiling" (02 C-17). Over the calls, both rules at once.
 use Prim.Native.Nat.{_<_, ℕ, _≤_}
 use mathlib.Core.Path.{_≡_}
 use mathlib.Core.List.{List}
@@ -8,9 +8,10 @@ use Rattle.counting.specs.CountingCall.{runCounting}
 use Rattle.counting.specs.Depth.{nesting}
 use Rattle.record.specs.Answers.{checkProgram}
 use Rattle.record.specs.declared.Header.{Header}
-use Rattle.record.specs.Header.{encodeProgram, encodeTerm}
+use Rattle.record.specs.Header.{encodeProgram, encodeTerm, largestOf, okOf}
 use Rattle.record.specs.Program.{BlockWords}
 use Rattle.reducer.specs.RunReducer.{runReducer}
+use Rattle.rules.specs.Sound.{SmallValues}
 use Rattle.rules.specs.Syntax.{Block}
 use Rattle.rules.specs.Translation.{translate}
 use Rattle.stepper.specs.RunStepper.{runStepper}
@@ -44,9 +45,16 @@ pub record EnginesTake (h : Header) (P : Block) (cb : List ℕ) (cu : ℕ) (μ :
       → (s : Start h P μ) × (startWorld h P μ s
       ≡ begun (record { buf = stepperBuf; used = cu; store = μ }) (record { buf = reducerBuf; used = (substituteCall buf used μ) .used; replaced = 0 }))
 
--- Of every accepted weighing of a gross and a tare that are values, by whichever rule, and every accepted program of as many variables
--- as it gives values. (That a program is accepted is said as at demand 3's start.)
+-- Of every accepted weighing, by whichever rule, and every accepted program of as many variables as it gives values, none of them above
+-- the program's ceiling; the 1 that C-15 gives variable 2 is such a value. (That a program is accepted is said as at demand 3's start.)
 unfoldable pub WeighedStore : Type 0
-WeighedStore = (rule gross tare : ℕ) (store : List ℕ) → gross < 4294967296 → tare < 4294967296 → (weighCall rule gross tare store) .number ≡ 0
+WeighedStore = (rule gross tare : ℕ) (store : List ℕ) → (weighCall rule gross tare store) .number ≡ 0
     → (h : Header) (P : Block) (cb : List ℕ) (cu : ℕ) → checkProgram cb cu ≡ record { number = 0; k = h .k } → take cu cb ≡ encodeProgram h P → BlockWords P
-    → length store ≡ h .k → EnginesTake h P cb cu ((weighCall rule gross tare store) .store)
+    → largestOf h < 4294967296 → length store ≡ h .k → SmallValues (okOf h) ((weighCall rule gross tare store) .store)
+    → EnginesTake h P cb cu ((weighCall rule gross tare store) .store)
+
+-- Where gross and tare are values within the ceiling, every weighed store is such a one: under a header of edition 1 of every
+-- gross and tare of 32 bits.
+unfoldable pub WeighedWithin : Type 0
+WeighedWithin = (rule gross tare : ℕ) (store : List ℕ) → (weighCall rule gross tare store) .number ≡ 0
+    → (h : Header) → gross ≤ largestOf h → tare ≤ largestOf h → SmallValues (okOf h) ((weighCall rule gross tare store) .store)

@@ -3,7 +3,7 @@ use Prim.Native.Nat.{_*_, _+_, _<_, suc, zero, ℕ, _≤_}
 use mathlib.Core.Path.{ap, ap₂, refl, subst, sym, _∙_, _≡_}
 use mathlib.Core.Logic.{inl, inr, _↔_, _⊎_}
 use mathlib.Core.Bool.{Bool, false, true, _||_}
-use mathlib.Core.List.{List, [], _∷_}
+use mathlib.Core.List.{List}
 use lib.Dec.{leb}
 use lib.ListN.{drop, length, replicate, take}
 use borrow.Author.Tests.{leb-false, leb-true}
@@ -15,7 +15,7 @@ use Rattle.record.specs.declared.Header.{Header}
 use Rattle.record.specs.Header.{encodeTerm, okOf}
 use Rattle.record.specs.Holding.{TermIn}
 use Rattle.record.specs.Rows.{badBuffer, headerOf, tooLong}
-use Rattle.record.proofs.HeaderLaws.{ok-limit, values-of}
+use Rattle.record.proofs.HeaderLaws.{ok-limit}
 use Rattle.record.proofs.HeldLaws.{long-is}
 use Rattle.record.proofs.HoldingLaws.{padded-term}
 use Rattle.record.proofs.PaddedLaws.{take-padded}
@@ -25,6 +25,7 @@ use Rattle.rules.specs.Scope.{Within}
 use Rattle.rules.specs.Sound.{SmallValues, SoundTerm}
 use Rattle.rules.specs.Syntax.{Block, Term}
 use Rattle.rules.specs.Translation.{translate}
+use Rattle.rules.proofs.LiteralsLaws.{small-drop, small-take}
 use Rattle.rules.proofs.SoundTermLaws.{sound-translate}
 use Rattle.reducer.specs.RunReducer.{ReducerCall}
 use Rattle.term.specs.Calls.{substituteCall, translateCall}
@@ -60,18 +61,6 @@ fourteen-iff budgets =
     let a = batch-iff budgets in
     let b = none-or-many (length budgets) in
     ((λ e. b .0 (a .0 e)), (λ e. a .1 (b .1 e)))
-
--- VALUES THAT PASS, of a part of them
-
-small-take : (ok : ℕ → Bool) (n : ℕ) (vs : List ℕ) → SmallValues ok vs → SmallValues ok (take n vs)
-small-take ok zero vs h = tt
-small-take ok (suc n) [] h = tt
-small-take ok (suc n) (v ∷ vs) h = (h .0, small-take ok n vs (h .1))
-
-small-drop : (ok : ℕ → Bool) (n : ℕ) (vs : List ℕ) → SmallValues ok vs → SmallValues ok (drop n vs)
-small-drop ok zero vs h = h
-small-drop ok (suc n) [] h = tt
-small-drop ok (suc n) (v ∷ vs) h = small-drop ok n vs (h .1)
 
 -- AN ACCEPTED BATCH
 
@@ -113,7 +102,7 @@ module _ {h : Header} {P : Block} {b : Lent} (a : Accepted h P b) where
     store-size = length-part (b .values) (i * k) k (omega (arith, row-fits i (length (b .budgets)) k here, lets .valued))
 
     store-small : SmallValues (okOf h) (storeAt k b i)
-    store-small = small-take (okOf h) k (drop (i * k) (b .values)) (small-drop (okOf h) (i * k) (b .values) (a .small))
+    store-small = small-take (okOf h) k (drop (i * k) (b .values)) (small-drop (okOf h) (i * k) (b .values) (lets .small))
 
     -- its run, and its answer
     abbrev ran : ReducerCall
@@ -189,9 +178,10 @@ batch-means = record {
   fourteen = fourteen-iff;
   six = values-iff;
   ten = longer-iff;
-  takes = λ b bytes words z.
+  takes = λ b bytes z.
       let p = batch-takes (b .program) (b .used) (b .term) (b .work) (b .budgets) (b .values) (b .answers) bytes z in
-      (headerOf (b .program) (b .used), p .0, record { holds = p .1; small = values-of (headerOf (b .program) (b .used)) (b .values) words; none = z });
+      (headerOf (b .program) (b .used), p .0, record { holds = p .1; none = z });
+  small = λ h P b a. batch-lets (b .program) (b .used) (b .term) (b .work) (b .budgets) (b .values) (b .answers) (a .holds) (a .none) .small;
   translates = λ h P b a. translates a;
   clears = λ h P b a. ap (λ (c : BatchCall). c .work) (call-is a);
   answers = λ h P b a. answers-fill a;

@@ -68,7 +68,7 @@ module _ {h : Header} {t : Term} {term : List ℕ} {used : ℕ} (holds : TermIn 
     module _ (buf : List ℕ) (long : length buf ≡ room) (begins : TermIn allVars h t buf used) (budget : ℕ) where
       left : substituteCall buf used store ≡ record { number = 0; used = used; replaced = replaced (fromStore store) t; written = padded room (encodeTerm h filled) }
       left =
-          substitute-gives begins (omega arith) store size
+          substitute-gives begins (omega arith) store size values
           ∙ ap (λ (n : ℕ). record { number = 0; used = used; replaced = replaced (fromStore store) t; written = padded n (encodeTerm h filled) }) long
 
       pub substitutes : (substituteCall buf used store) .number ≡ 0

@@ -12,17 +12,20 @@ use Rattle.buffer.specs.LittleEndian.{Bytes}
 use Rattle.buffer.specs.Slice.{zeros}
 use Rattle.record.specs.Answers.{Checked, checkProgram, padded, tooShort}
 use Rattle.record.specs.declared.Header.{Header}
-use Rattle.record.specs.Header.{contentsAt, encodeTerm, headerIn, okOf}
+use Rattle.record.specs.Header.{contentsAt, encodeTerm, headerIn, largestOf, okOf}
 use Rattle.record.specs.Holding.{ProgramIn, TermIn}
-use Rattle.record.specs.Rows.{NoRow, Row, badBuffer, firstRow, headerOf, kOf, programRows, row, tooLong}
+use Rattle.record.specs.Rows.{NoRow, Row, badBuffer, firstRow, headerOf, kOf, limitedProgramRows, row, tooLong, valuesAbove}
 use Rattle.record.proofs.AnswerLaws.{check-program-number, fits-out, out-fits, ten-iff}
 use Rattle.record.proofs.HeaderLaws.{ok-limit}
-use Rattle.record.proofs.HeldLaws.{buffer-good, good-buffer, not-long, short-buffer}
-use Rattle.record.proofs.HoldingLaws.{padded-term, passes-program, program-as-read, program-first, program-k, program-whole}
+use Rattle.record.proofs.HeldLaws.{buffer-good, good-buffer, good-values, not-long, short-buffer, values-good, values-read}
+use Rattle.record.proofs.HoldingLaws.{padded-term, passes-program, program-as-read, program-first, program-header, program-k, program-whole}
 use Rattle.record.proofs.RowLaws.{first-applies, first-before, first-none, first-skips, none-first, none-split, not-intro, or-false, or-intro, or-true}
 use Rattle.record.proofs.RowMeaningLaws.{eqb-iff, not-iff, or-iff}
 use Rattle.rules.specs.FreeVariables.{allVars}
+use Rattle.rules.specs.Literals.{smallValues}
 use Rattle.rules.specs.Scope.{Within, inRange}
+use Rattle.rules.specs.Sound.{SmallValues}
+use Rattle.rules.specs.Store.{upTo}
 use Rattle.rules.specs.Syntax.{Block}
 use Rattle.rules.specs.Translation.{translate}
 use Rattle.rules.proofs.ScopeLaws.{inRange-within, within-inRange}
@@ -53,10 +56,10 @@ batch-good : (budgets : List ℕ) → Within 64 (length budgets) → badBatch bu
 unfolding badBatch
 batch-good budgets w = not-intro (within-inRange 64 (length budgets) w)
 
-good-values : (program : List ℕ) (used : ℕ) (budgets values answers : List ℕ) → badValues program used budgets values answers ≡ false
+good-sizes : (program : List ℕ) (used : ℕ) (budgets values answers : List ℕ) → badValues program used budgets values answers ≡ false
     → (length values ≡ length budgets * kOf program used) × (length answers ≡ length budgets * (kOf program used + 2))
 unfolding badValues
-good-values program used budgets values answers e =
+good-sizes program used budgets values answers e =
     let m : ℕ = length budgets * kOf program used in
     let n : ℕ = length budgets * (kOf program used + 2) in
     let both = or-false (not (eqb (length values) m)) (not (eqb (length answers) n)) e in
@@ -93,7 +96,7 @@ unfolding longerThanEither
 longer-not term work answer a b = or-intro (fits-out term answer a) (fits-out work answer b)
 
 module _ (program : List ℕ) (used : ℕ) (term work budgets : List ℕ) where
-  -- ROWS 1, 14 AND 2 TO 5, as the check finds them
+  -- ROWS 1, 14, 2 TO 5 AND 15, as the check finds them
 
   one-applies : (more : List Row) → (badBuffer program used || (tooLong term || tooLong work)) ≡ true → 1 ≡ firstRow (checkBatchRows program used term work budgets more)
   one-applies more e = sym (first-applies 1 (badBuffer program used || (tooLong term || tooLong work)) _ e)
@@ -108,7 +111,7 @@ module _ (program : List ℕ) (used : ℕ) (term work budgets : List ℕ) where
   check-work-buffer e = one-applies [] (or-true (badBuffer program used) (tooLong term || tooLong work) (or-true (tooLong term) (tooLong work) e))
 
   module _ (a : badBuffer program used ≡ false) (b : tooLong term ≡ false) (c : tooLong work ≡ false) where
-    behind-one : (more : List Row) → firstRow (checkBatchRows program used term work budgets more) ≡ firstRow (row 14 (badBatch budgets) ∷ programRows program used more)
+    behind-one : (more : List Row) → firstRow (checkBatchRows program used term work budgets more) ≡ firstRow (row 14 (badBatch budgets) ∷ limitedProgramRows program used more)
     behind-one more = first-skips 1 (badBuffer program used || (tooLong term || tooLong work)) _ (or-intro a (or-intro b c))
 
     pub check-batch : (Within 64 (length budgets) → ⊥) → 14 ≡ firstRow (checkBatchRows program used term work budgets [])
@@ -116,9 +119,9 @@ module _ (program : List ℕ) (used : ℕ) (term work budgets : List ℕ) where
 
     -- where rows 1 and 14 do not apply, the first row is that of a call on the program alone
     behind-batch : Within 64 (length budgets) → (more : List Row)
-        → firstRow (checkBatchRows program used term work budgets more) ≡ firstRow (row 1 (badBuffer program used) ∷ programRows program used more)
+        → firstRow (checkBatchRows program used term work budgets more) ≡ firstRow (row 1 (badBuffer program used) ∷ limitedProgramRows program used more)
     behind-batch w more =
-        behind-one more ∙ first-skips 14 (badBatch budgets) _ (batch-good budgets w) ∙ sym (first-skips 1 (badBuffer program used) (programRows program used more) a)
+        behind-one more ∙ first-skips 14 (badBatch budgets) _ (batch-good budgets w) ∙ sym (first-skips 1 (badBuffer program used) (limitedProgramRows program used more) a)
 
     pub check-record : Within 64 (length budgets) → (n k : ℕ) → checkProgram program used ≡ record { number = n; k = k } → n ≡ firstRow (checkBatchRows program used term work budgets [])
     check-record w n k e = sym (behind-batch w [] ∙ sym (check-program-number program used) ∙ ap (λ (x : Checked). x .number) e)
@@ -216,7 +219,7 @@ module _ (program : List ℕ) (used : ℕ) (term work budgets values answers : L
     is-k : kOf program used ≡ h .k
     is-k = program-k (p .holds)
 
-    behind : firstRow rows ≡ firstRow (row 6 (badValues program used budgets values answers) ∷ row 10 (longerThanEither term work (translated program used)) ∷ [])
+    behind : firstRow rows ≡ firstRow (row 6 (badValues program used budgets values answers) ∷ row 16 (valuesAbove program used values) ∷ row 10 (longerThanEither term work (translated program used)) ∷ [])
     behind =
         let a = buffer-good program used (record { low = p .low; within = p .holds .within }) in
         behind-batch program used term work budgets a (not-long term (p .lowTerm)) (not-long work (p .lowWork)) (p .many) _
@@ -238,30 +241,48 @@ module _ (program : List ℕ) (used : ℕ) (term work budgets values answers : L
     batch-six e =
         batch-row 6 (behind ∙ first-applies 6 (badValues program used budgets values answers) _ (values-iff program used budgets values answers .1 (rw is-k e))) (λ z. omega (arith, z))
 
-    module _ (values-good : length values ≡ length budgets * h .k) (answers-good : length answers ≡ length budgets * (h .k + 2)) where
-      behind-six : firstRow rows ≡ firstRow (row 10 (longerThanEither term work (translated program used)) ∷ [])
-      behind-six = behind ∙ first-skips 6 (badValues program used budgets values answers) _ (values-fit program used budgets values answers (rw is-k values-good) (rw is-k answers-good))
+    module _ (values-many : length values ≡ length budgets * h .k) (answers-many : length answers ≡ length budgets * (h .k + 2)) where
+      behind-six : firstRow rows ≡ firstRow (row 16 (valuesAbove program used values) ∷ row 10 (longerThanEither term work (translated program used)) ∷ [])
+      behind-six = behind ∙ first-skips 6 (badValues program used budgets values answers) _ (values-fit program used budgets values answers (rw is-k values-many) (rw is-k answers-many))
 
-      -- row 10
-      pub batch-ten : (n : ℕ) → n ≡ length bytes → ((length term < n) ⊎ (length work < n)) → asBatch (refusedWith 10) term work answers ≡ call
-      batch-ten n e l =
-          batch-row 10 (behind-six ∙ first-applies 10 (longerThanEither term work (translated program used)) [] (longer-iff term work (translated program used) .1 (rw (is-translated, sym e) l))) (λ z. omega (arith, z))
+      -- row 16, by the largest value of the header
+      module _ (largest : ℕ) (limits : largest ≡ largestOf h) (above : Bool) (tells : above ≡ not (smallValues (upTo largest) values)) where
+        values-as : valuesAbove program used values ≡ above
+        values-as = values-read program used h (program-header (p .holds)) largest limits values above tells
 
-      -- none
-      pub no-row-behind : length bytes ≤ length term → length bytes ≤ length work → firstRow rows ≡ 0
-      no-row-behind a b =
-          behind-six ∙ none-first (row 10 (longerThanEither term work (translated program used)) ∷ [])
-          (longer-not term work (translated program used) (rw is-translated a) (rw is-translated b), tt)
+        pub batch-sixteen : above ≡ true → asBatch (refusedWith 16) term work answers ≡ call
+        batch-sixteen t =
+            batch-row 16 (behind-six ∙ first-applies 16 (valuesAbove program used values) _ (values-as ∙ t)) (λ z. omega (arith, z))
 
-      pub batch-zero : (n : ℕ) → n ≡ length bytes → n ≤ length term → n ≤ length work
-          → (term₁ : List ℕ) → term₁ ≡ padded (length term) bytes → (work₁ : List ℕ) → work₁ ≡ zeros (length work)
-          → (answers₁ : List ℕ) → answers₁ ≡ answersOf (h .k) (take n term₁) (length work) (jobs (h .k) budgets values)
-          → asBatch (wroteBytes n) term₁ work₁ answers₁ ≡ call
-      unfolding zeros
-      batch-zero n e a b term₁ et work₁ ew answers₁ ea =
-          let z = no-row-behind (omega arith) (omega arith) in
-          let own = ea ∙ ap (λ (l : List ℕ). answersOf (h .k) l (length work) (jobs (h .k) budgets values)) (given-term n e b term₁ et .holds .bytes) in
-          sym (batch-accepted z ∙ rw (is-translated, is-k, sym e, sym et, sym ew, sym own) refl)
+        pub values-small : above ≡ false → SmallValues (okOf h) values
+        values-small f = subst (λ (x : Header). SmallValues (okOf x) values) (program-header (p .holds)) (good-values program used values (values-as ∙ f))
+
+      module _ (small : SmallValues (okOf h) values) where
+        last-row : firstRow rows ≡ firstRow (row 10 (longerThanEither term work (translated program used)) ∷ [])
+        last-row =
+            behind-six
+            ∙ first-skips 16 (valuesAbove program used values) _ (values-good program used values (subst (λ (x : Header). SmallValues (okOf x) values) (sym (program-header (p .holds))) small))
+
+        -- row 10
+        pub batch-ten : (n : ℕ) → n ≡ length bytes → ((length term < n) ⊎ (length work < n)) → asBatch (refusedWith 10) term work answers ≡ call
+        batch-ten n e l =
+            batch-row 10 (last-row ∙ first-applies 10 (longerThanEither term work (translated program used)) [] (longer-iff term work (translated program used) .1 (rw (is-translated, sym e) l))) (λ z. omega (arith, z))
+
+        -- none
+        pub no-row-behind : length bytes ≤ length term → length bytes ≤ length work → firstRow rows ≡ 0
+        no-row-behind a b =
+            last-row ∙ none-first (row 10 (longerThanEither term work (translated program used)) ∷ [])
+            (longer-not term work (translated program used) (rw is-translated a) (rw is-translated b), tt)
+
+        pub batch-zero : (n : ℕ) → n ≡ length bytes → n ≤ length term → n ≤ length work
+            → (term₁ : List ℕ) → term₁ ≡ padded (length term) bytes → (work₁ : List ℕ) → work₁ ≡ zeros (length work)
+            → (answers₁ : List ℕ) → answers₁ ≡ answersOf (h .k) (take n term₁) (length work) (jobs (h .k) budgets values)
+            → asBatch (wroteBytes n) term₁ work₁ answers₁ ≡ call
+        unfolding zeros
+        batch-zero n e a b term₁ et work₁ ew answers₁ ea =
+            let z = no-row-behind (omega arith) (omega arith) in
+            let own = ea ∙ ap (λ (l : List ℕ). answersOf (h .k) l (length work) (jobs (h .k) budgets values)) (given-term n e b term₁ et .holds .bytes) in
+            sym (batch-accepted z ∙ rw (is-translated, is-k, sym e, sym et, sym ew, sym own) refl)
 
 -- WHAT ALL ROWS LET THROUGH
 
@@ -269,15 +290,16 @@ pub record Lets (h : Header) (P : Block) (program : List ℕ) (used : ℕ) (term
   pub passed : Passed h P program used term work budgets
   pub valued : length values ≡ length budgets * h .k
   pub placed : length answers ≡ length budgets * (h .k + 2)
+  pub small : SmallValues (okOf h) values
   pub fitsTerm : length (encodeTerm h (translate (h .k) P)) ≤ length term
   pub fitsWork : length (encodeTerm h (translate (h .k) P)) ≤ length work
 
 module _ (program : List ℕ) (used : ℕ) (term work budgets values answers : List ℕ) where
   module _ (z : (runBatch program used term work budgets values answers) .number ≡ 0) where
     split : NoRow (checkBatchRows program used term work budgets [])
-        × NoRow (row 6 (badValues program used budgets values answers) ∷ row 10 (longerThanEither term work (translated program used)) ∷ [])
+        × NoRow (row 6 (badValues program used budgets values answers) ∷ row 16 (valuesAbove program used values) ∷ row 10 (longerThanEither term work (translated program used)) ∷ [])
     split =
-        none-split (checkBatchRows program used term work budgets []) (row 6 (badValues program used budgets values answers) ∷ row 10 (longerThanEither term work (translated program used)) ∷ [])
+        none-split (checkBatchRows program used term work budgets []) (row 6 (badValues program used budgets values answers) ∷ row 16 (valuesAbove program used values) ∷ row 10 (longerThanEither term work (translated program used)) ∷ [])
         (first-none (batchRows program used term work budgets values answers) refl (sym (batch-number program used term work budgets values answers) ∙ z))
 
   pub batch-takes : Bytes program → (runBatch program used term work budgets values answers) .number ≡ 0 → (P : Block) × ProgramIn (headerOf program used) P program used
@@ -288,14 +310,15 @@ module _ (program : List ℕ) (used : ℕ) (term work budgets values answers : L
   batch-lets {h} {P} p z =
       let n = split z in
       let q = passed-of program used term work budgets (n .0) p in
-      let v = good-values program used budgets values answers (n .1 .0) in
-      let f = not-longer term work (translated program used) (n .1 .1 .0) in
+      let v = good-sizes program used budgets values answers (n .1 .0) in
+      let f = not-longer term work (translated program used) (n .1 .1 .1 .0) in
       let e = is-k program used term work budgets values answers q in
       let t = is-translated program used term work budgets values answers q in
       record {
         passed = q;
         valued = v .0 ∙ ap (λ (m : ℕ). length budgets * m) e;
         placed = v .1 ∙ ap (λ (m : ℕ). length budgets * (m + 2)) e;
+        small = subst (λ (x : Header). SmallValues (okOf x) values) (program-header p) (good-values program used values (n .1 .1 .0));
         fitsTerm = omega (arith, f .0, ap length t);
         fitsWork = omega (arith, f .1, ap length t);
       }
@@ -313,5 +336,5 @@ module _ (program : List ℕ) (used : ℕ) (term work budgets values answers : L
       let p = l .passed in
       let t = is-translated program used term work budgets values answers p in
       let z : firstRow (batchRows program used term work budgets values answers) ≡ 0 =
-      no-row-behind program used term work budgets values answers p (l .valued) (l .placed) (l .fitsTerm) (l .fitsWork) in
+      no-row-behind program used term work budgets values answers p (l .valued) (l .placed) (l .small) (l .fitsTerm) (l .fitsWork) in
       batch-accepted program used term work budgets values answers z ∙ rw (t, is-k program used term work budgets values answers p) refl

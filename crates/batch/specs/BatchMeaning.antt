@@ -44,10 +44,9 @@ budgetAt b i = getD (b .budgets) i 0
 abbrev pub answerAt : ℕ → Lent → ℕ → List ℕ
 answerAt k b i = take (k + 2) (drop (i * (k + 2)) ((batchOf b) .answers))
 
--- A batch that is accepted: its program's record is that of P with this header, its values pass, and no row applies.
+-- A batch that is accepted: its program's record is that of P with this header, and no row applies.
 pub record Accepted (h : Header) (P : Block) (b : Lent) : Type 0 where
   pub holds : ProgramIn h P (b .program) (b .used)
-  pub small : SmallValues (okOf h) (b .values)
   pub none : (batchOf b) .number ≡ 0
 
 -- The k + 2 values are the answer of the call r of the reducer's run, which is accepted: the outcome's number, the steps, and what
@@ -80,9 +79,10 @@ pub record BatchMeans : Type 0 where
       → (badValues program used budgets values answers ≡ true)
       ↔ ((length values ≡ length budgets * kOf program used → ⊥) ⊎ (length answers ≡ length budgets * (kOf program used + 2) → ⊥))
   pub ten : (term work answer : List ℕ) → (longerThanEither term work answer ≡ true) ↔ ((length term < length answer) ⊎ (length work < length answer))
-  -- ACCEPTED is every batch of bytes and 32-bit values whose number is 0: its buffer begins with the record of some program
-  pub takes : (b : Lent) → Bytes (b .program) → ((i : ℕ) → getD (b .values) i 0 < 4294967296) → (batchOf b) .number ≡ 0
-      → (h : Header) × (P : Block) × Accepted h P b
+  -- ACCEPTED is every batch of bytes whose number is 0: its buffer begins with the record of some program, and none of its values is above
+  -- that record's ceiling (row 16, 02 C-17)
+  pub takes : (b : Lent) → Bytes (b .program) → (batchOf b) .number ≡ 0 → (h : Header) × (P : Block) × Accepted h P b
+  pub small : (h : Header) (P : Block) (b : Lent) → Accepted h P b → SmallValues (okOf h) (b .values)
   -- AFTERWARDS one buffer holds what translate writes into it, which is accepted, the other is all zero, and the answers have their places
   pub translates : (h : Header) (P : Block) (b : Lent) → Accepted h P b
       → translateCall (b .program) (b .used) (b .term) ≡ record { number = 0; used = (batchOf b) .used; written = (batchOf b) .term }

@@ -5,7 +5,7 @@ use mathlib.Core.List.{List, [], flatMap, _∷_}
 use lib.Dec.{eqb}
 use lib.ListN.{drop, length, replicate, take}
 use Rattle.record.specs.Answers.{padded, tooShort}
-use Rattle.record.specs.Rows.{Row, badBuffer, firstRow, kOf, programRows, row, tooLong}
+use Rattle.record.specs.Rows.{Row, badBuffer, firstRow, kOf, limitedProgramRows, row, tooLong, valuesAbove}
 use Rattle.reducer.specs.RunReducer.{ReducerCall, runReducer}
 use Rattle.rules.specs.Run.{Outcome, isFinished, isOver, noRoom, refused, spent}
 use Rattle.rules.specs.Scope.{inRange}
@@ -65,16 +65,16 @@ badValues program used budgets values answers =
 unfoldable pub longerThanEither : List ℕ → List ℕ → List ℕ → Bool
 longerThanEither term work answer = tooShort term answer || tooShort work answer
 
--- Rows 1, 14 and 2 to 5, which the program, the two buffers and the budgets decide, and then more: 14 comes after 1 (02 C-16).
+-- Rows 1, 14, 2 to 5 and 15, which the program, the two buffers and the budgets decide, and then more: 14 comes after 1 (02 C-16).
 abbrev pub checkBatchRows : List ℕ → ℕ → List ℕ → List ℕ → List ℕ → List Row → List Row
 checkBatchRows program used term work budgets more =
-    row 1 (badBuffer program used || (tooLong term || tooLong work)) ∷ row 14 (badBatch budgets) ∷ programRows program used more
+    row 1 (badBuffer program used || (tooLong term || tooLong work)) ∷ row 14 (badBatch budgets) ∷ limitedProgramRows program used more
 
 -- The rows of the call, in the order of the table.
 abbrev pub batchRows : List ℕ → ℕ → List ℕ → List ℕ → List ℕ → List ℕ → List ℕ → List Row
 batchRows program used term work budgets values answers =
     checkBatchRows program used term work budgets
-    (row 6 (badValues program used budgets values answers) ∷ row 10 (longerThanEither term work (translated program used)) ∷ [])
+    (row 6 (badValues program used budgets values answers) ∷ row 16 (valuesAbove program used values) ∷ row 10 (longerThanEither term work (translated program used)) ∷ [])
 
 -- THE CALL
 

@@ -8,7 +8,7 @@ use Rattle.rules.specs.FreeVariables.{allVars, noVars}
 use Rattle.rules.specs.Scope.{Within}
 use Rattle.rules.specs.Syntax.{Block, Term, num, tuple}
 
--- What rows 1, 14 and 2 to 5 let through: the record of the program P in a buffer, two buffers that are not too long, and 1 to 64 budgets.
+-- What rows 1, 14, 2 to 5 and 15 let through: the record of the program P in a buffer, two buffers that are not too long, and 1 to 64 budgets.
 pub record Passed (h : Header) (P : Block) (program : List ℕ) (used : ℕ) (term work budgets : List ℕ) : Type 0 where
   pub holds : ProgramIn h P program used
   pub low : length program ≤ 16384

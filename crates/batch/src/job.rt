@@ -5,7 +5,9 @@ ghost use mathlib.Core.List.{List, _∷_};
 ghost use Prim.Native.Nat.{ℕ, _*_, _+_, _≤_};
 ghost use lib.ListN.{drop, length, take};
 ghost use Rattle.buffer.specs.Slice.{zeros};
+ghost use Rattle.record.specs.Header.{okOf};
 ghost use Rattle.rules.specs.Run.{isFinished};
+ghost use Rattle.rules.specs.Sound.{SmallValues};
 ghost use Rattle.rules.specs.Syntax.{Term};
 ghost use Rattle.run.specs.Represents.{asOutcome};
 ghost use Rattle.batch.specs.Represents.{asReducerCall};
@@ -78,7 +80,7 @@ fn run_job(
     budget: u32,
     answer: &mut [u32],
 )
-    requires { ⌜ ((t : Term) × Given h t (now term) used (now work)) × (length (now store) ≡ h .k) × (length (now answer) ≡ h .k + 2) ⌝ }
+    requires { ⌜ ((t : Term) × Given h t (now term) used (now work)) × (length (now store) ≡ h .k) × SmallValues (okOf h) (now store) × (length (now answer) ≡ h .k + 2) ⌝ }
     ensures { λ _. ⌜ now (answer .exit) ≡ answerOf (h .k) (runAlone (take used (now (term .entry))) (length (now (work .entry))) (record { store = now (store .entry); budget = budget })) ⌝ }
 {
     copy(term, 0, work, 0, used);
@@ -97,7 +99,7 @@ pub fn run_jobs(
     values: &[u32],
     answers: &mut [u32],
 )
-    requires { ⌜ ((t : Term) × Given h t (now term) used (now work)) × (length (now budgets) ≤ 64) × (length (now values) ≡ length (now budgets) * h .k) × (length (now answers) ≡ length (now budgets) * (h .k + 2)) ⌝ }
+    requires { ⌜ ((t : Term) × Given h t (now term) used (now work)) × (length (now budgets) ≤ 64) × (length (now values) ≡ length (now budgets) * h .k) × SmallValues (okOf h) (now values) × (length (now answers) ≡ length (now budgets) * (h .k + 2)) ⌝ }
     ensures { λ _. ⌜ now (answers .exit) ≡ answersOf (h .k) (take used (now (term .entry))) (length (now (work .entry))) (jobs (h .k) (now (budgets .entry)) (now (values .entry))) ⌝ }
 {
     let k = h.k as usize;

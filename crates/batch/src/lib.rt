@@ -12,6 +12,7 @@ ghost use Rattle.batch.specs.Running.{Passed};
 use crate::job::run_jobs;
 use buffer::zero;
 use checker::bad_buffer;
+use checker::some_above;
 use checker::too_long;
 use program_checker::check_record;
 use record::Header;
@@ -20,13 +21,14 @@ use record::refusal::BAD_BATCH;
 use record::refusal::BAD_BUFFER;
 use record::refusal::BAD_STORE;
 use record::refusal::OUTPUT_TOO_SHORT;
+use record::refusal::VALUE_ABOVE_CEILING;
 use term::Written;
 use term::refused;
 use term::wrote;
 use translator::translation_size;
 use translator::write_translation;
 
-// Rows 1, 14 and 2 to 5: the number of the first that applies, 0 where none does. Row 14 comes before the program is looked at.
+// Rows 1, 14, 2 to 5 and 15: the number of the first that applies, 0 where none does. Row 14 comes before the program is looked at.
 fn check(program: &[u8], used: usize, term: &[u8], work: &[u8], budgets: &[u32]) -> u32
     ensures { λ r. ⌜ r ≡ firstRow (checkBatchRows (now (program .entry)) used (now (term .entry)) (now (work .entry)) (now (budgets .entry)) []) ⌝ }
 {
@@ -48,7 +50,7 @@ fn check(program: &[u8], used: usize, term: &[u8], work: &[u8], budgets: &[u32])
     }
 }
 
-// Rows 6 and 10, and then the work: nothing is written before all rows are tested. The products are small, for there are at most 64
+// Rows 6, 16 and 10, and then the work: nothing is written before all rows are tested. The products are small, for there are at most 64
 // budgets and k is at most 16.
 fn run_checked(
     program: &[u8],
@@ -70,6 +72,9 @@ fn run_checked(
     }
     if answers.len() != count * (k + 2) {
         return refused(BAD_STORE);
+    }
+    if some_above(values, h.largest()) {
+        return refused(VALUE_ABOVE_CEILING);
     }
     let n = translation_size(program, used, h);
     if term.len() < n {

@@ -39,6 +39,13 @@ unfolding val
 val-lt [] h = lit< tt
 val-lt (b ∷ bs) h = omega (arith, val-lt bs (h .1), h .0, pow-succ' 256 (length bs))
 
+-- the first w bytes, or all where there are fewer
+pub val-take : (w : ℕ) (bs : List ℕ) → Bytes bs → val (take w bs) < 256 ^ w
+unfolding val
+val-take zero bs h = lit< tt
+val-take (suc w) [] h = omega (arith, val-take w [] h, pow-succ' 256 w)
+val-take (suc w) (b ∷ bs) h = omega (arith, val-take w bs (h .1), h .0, pow-succ' 256 w)
+
 pub bytes-append : (s t : List ℕ) → Bytes s → Bytes t → Bytes (s ++ t)
 bytes-append [] t h k = k
 bytes-append (x ∷ s) t h k = (h .0, bytes-append s t (h .1) k)

@@ -1,23 +1,26 @@
-// What the check of a program and the check of a term share: rows 1 to 3, a variable number's range, what is found of a
-// record's contents (rows 4 and 5), and the answer.
+// What the check of a program and the check of a term share: rows 1 to 3, a variable number's range, a value beside the
+// largest one, what is found of a record's contents (rows 4, 5 and 15), and the answer; and row 16's test of values.
 use reader::Head;
 use record::Sort;
 use record::limit;
 use record::refusal;
 ghost use mathlib.Core.Path.{_≡_};
-ghost use mathlib.Core.Bool.{false};
+ghost use mathlib.Core.Bool.{false, not};
 ghost use lib.Dec.{ltb};
+ghost use Rattle.rules.specs.Literals.{smallValues};
 ghost use Rattle.rules.specs.Scope.{inRange};
+ghost use Rattle.rules.specs.Store.{upTo};
 ghost use Rattle.record.specs.Answers.{checkedBy};
 ghost use Rattle.record.specs.HeaderRows.{headerRow};
 ghost use Rattle.record.specs.Rows.{badBuffer};
 ghost use Rattle.checker.specs.Answer.{asChecked};
-ghost use Rattle.checker.specs.Verdict.{numberOf, rated, worse};
+ghost use Rattle.checker.specs.Verdict.{numberOf, rated, valued, worse};
 
-// What the contents of a record are found to be. Row 4 comes before row 5 wherever the two are found, so malformed is
-// worse than outside.
+// What the contents of a record are found to be. Row 4 comes before row 5 and row 5 before row 15, wherever they are found, so
+// malformed is worse than outside, and outside worse than above.
 pub enum Verdict {
     Good,
+    Above,
     Outside,
     Malformed,
 }
@@ -35,8 +38,15 @@ pub fn worst(a: Verdict, b: Verdict) -> Verdict
     match a {
         Verdict::Good => b,
         Verdict::Malformed => Verdict::Malformed,
+        Verdict::Above => match b {
+            Verdict::Good => Verdict::Above,
+            Verdict::Above => Verdict::Above,
+            Verdict::Outside => Verdict::Outside,
+            Verdict::Malformed => Verdict::Malformed,
+        },
         Verdict::Outside => match b {
             Verdict::Good => Verdict::Outside,
+            Verdict::Above => Verdict::Outside,
             Verdict::Outside => Verdict::Outside,
             Verdict::Malformed => Verdict::Malformed,
         },
@@ -48,6 +58,7 @@ pub fn number_of(v: Verdict) -> u32
 {
     match v {
         Verdict::Good => 0,
+        Verdict::Above => refusal::LITERAL_ABOVE_CEILING,
         Verdict::Outside => refusal::BAD_VARIABLE,
         Verdict::Malformed => refusal::MALFORMED,
     }
@@ -63,6 +74,30 @@ pub fn check_variable(x: u32, k: u32) -> Verdict
         return Verdict::Outside;
     }
     Verdict::Good
+}
+
+// A literal or a numeral.
+pub fn check_value(v: u32, largest: u32) -> Verdict
+    ensures { λ r. ⌜ r ≡ valued (upTo largest v) ⌝ }
+{
+    if largest < v {
+        return Verdict::Above;
+    }
+    Verdict::Good
+}
+
+// Row 16: whether one of the values that a call reads is above the largest.
+pub fn some_above(values: &[u32], largest: u32) -> bool
+    ensures { λ r. ⌜ r ≡ not (smallValues (upTo largest) (now (values .entry))) ⌝ }
+{
+    let mut i = 0;
+    while i < values.len() {
+        if largest < values[i] {
+            return true;
+        }
+        i += 1;
+    }
+    false
 }
 
 // A refusal gives no k.

@@ -1,22 +1,26 @@
--- What rows 12 and 13 say in plain facts.
+-- What rows 12, 13 and 16 say in plain facts.
 use Prim.Native.Nat.{_<_, ℕ}
-use mathlib.Core.Path.{refl, sym, _∙_, _≡_}
-use mathlib.Core.Logic.{_↔_}
+use mathlib.Core.Path.{ap, refl, sym, _∙_, _≡_}
+use mathlib.Core.Logic.{Iff·trans, inl, inr, _↔_, _⊎_}
 use mathlib.Core.Bool.{not, true}
-use mathlib.Core.List.{List}
+use mathlib.Core.List.{_++_, List, [], _∷_}
 use mathlib.Core.Option.{some}
 use borrow.Author.Tests.{lt-ltb, ltb-true}
 use lib.Dec.{ltb}
 use native.Mathlib.Omega.{arith}
-use Rattle.record.specs.Rows.{blockOf}
-use Rattle.record.proofs.RowLaws.{holds-some}
-use Rattle.rules.specs.Syntax.{Block}
+use Rattle.record.specs.Header.{largestOf}
+use Rattle.record.specs.Rows.{blockOf, headerOf, programOf, valuesAbove}
+use Rattle.record.proofs.RowLaws.{holds-some, orElse-some}
+use Rattle.record.proofs.RowMeaningLaws.{rows-mean}
+use Rattle.rules.specs.Literals.{Among}
+use Rattle.rules.specs.Syntax.{Block, empty}
 use Rattle.rules.proofs.Tests.{true-false}
 use Rattle.counting.specs.Counting.{State}
-use Rattle.counting.specs.CountingCall.{badState, tooDeep}
+use Rattle.counting.specs.CountingCall.{badState, orStart, stateAbove, tooDeep}
 use Rattle.counting.specs.CountingMeaning.{HeldIn, Refused13}
 use Rattle.counting.specs.Depth.{nesting}
 use Rattle.counting.specs.ReadState.{Read, Wrong, isRight, readNumbers, right, wrong}
+use Rattle.counting.specs.SmallState.{countsIn}
 use Rattle.counting.specs.StateWords.{decodeState, unpacked}
 use Rattle.counting.proofs.FaultLaws.{fault-exactly}
 use Rattle.counting.proofs.PassesLaws.{passes}
@@ -69,3 +73,40 @@ no-state P words =
     let w = wrong-conditions P words in
     let n = wrong-none (decodeState P words) in
     ((λ k s q. n .0 (w .1 k) s ((decode-held P words s) .1 q)), (λ k. w .0 (n .1 (λ s q. k s ((decode-held P words s) .0 q)))))
+
+-- ROW 16
+
+pub right-state : (o : Read State) (s : State) → o ≡ right s → orStart o ≡ s
+unfolding orStart
+right-state o s e = rw e refl
+
+among-append : (n : ℕ) (r s : List ℕ) → Among n (r ++ s) → Among n r ⊎ Among n s
+among-append n [] s h = inr h
+among-append n (v ∷ r) s (inl e) = inl (inl e)
+among-append n (v ∷ r) s (inr h) = go (among-append n r s h)
+  where
+    go : Among n r ⊎ Among n s → Among n (v ∷ r) ⊎ Among n s
+    go (inl g) = inl (inr g)
+    go (inr g) = inr g
+
+append-among : (n : ℕ) (r s : List ℕ) → Among n r ⊎ Among n s → Among n (r ++ s)
+append-among n [] s (inl h) = absurd h
+append-among n [] s (inr h) = h
+append-among n (v ∷ r) s (inl (inl e)) = inl e
+append-among n (v ∷ r) s (inl (inr h)) = inr (append-among n r s (inl h))
+append-among n (v ∷ r) s (inr h) = inr (append-among n r s (inr h))
+
+module _ (buf : List ℕ) (used : ℕ) (P : Block) (words store : List ℕ) (s : State) (block : blockOf buf used ≡ some P) where
+  -- it looks at the values of the store, and at those of the state that the words hold
+  pub state-above : decodeState P words ≡ right s → stateAbove buf used words store ≡ valuesAbove buf used (store ++ countsIn s)
+  unfolding stateAbove
+  state-above e =
+      let is : orStart (decodeState (programOf buf used) words) ≡ s =
+      ap (λ (Q : Block). orStart (decodeState Q words)) (orElse-some empty (blockOf buf used) P block) ∙ right-state (decodeState P words) s e in
+      ap (λ (t : State). valuesAbove buf used (store ++ countsIn t)) is
+
+  pub sixteen : HeldIn P words s → (stateAbove buf used words store ≡ true) ↔ ((n : ℕ) × (Among n store ⊎ Among n (countsIn s)) × (largestOf (headerOf buf used) < n))
+  sixteen h =
+      rw (state-above ((decode-held P words s) .1 h))
+      (Iff·trans (rows-mean .sixteen buf used (store ++ countsIn s))
+      ((λ v. (v .0, among-append (v .0) store (countsIn s) (v .1), v .2)), (λ v. (v .0, append-among (v .0) store (countsIn s) (v .1), v .2))))

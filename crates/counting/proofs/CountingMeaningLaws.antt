@@ -9,23 +9,24 @@ use native.Mathlib.Omega.{arith}
 use Rattle.buffer.specs.LittleEndian.{Bytes}
 use Rattle.record.specs.declared.Header.{Header}
 use Rattle.record.specs.Header.{okOf}
-use Rattle.record.specs.Rows.{NoRow, headerOf, programRows}
+use Rattle.record.specs.Rows.{NoRow, badBuffer, blockAbove, headerOf, programRows, row}
 use Rattle.record.proofs.HoldingLaws.{passes-program}
-use Rattle.record.proofs.RowLaws.{none-first, none-split}
+use Rattle.record.proofs.RowLaws.{none-both, none-first, none-split}
 use Rattle.rules.specs.Run.{iterate}
 use Rattle.rules.specs.Syntax.{Block, assign, empty, loop, nest}
 use Rattle.rules.proofs.Tests.{iff-beside}
 use Rattle.counting.specs.CountStep.{countStep}
 use Rattle.counting.specs.Counting.{Counting, State, expand, start}
 use Rattle.counting.specs.CountingCall.{countingRows, runCounting, stateRows}
-use Rattle.counting.specs.CountingMeaning.{Accepts, CountingMeans, NumbersMean, Passes, openedBy}
+use Rattle.counting.specs.CountingMeaning.{CountingMeans, NumbersMean, Passes, openedBy}
 use Rattle.counting.specs.Fault.{OpensAs}
 use Rattle.counting.specs.Held.{Held, Progress, atPlace, canonical, none, nothing, openingOf, phaseOf, progressOf, runs, toStore}
 use Rattle.counting.specs.StateWords.{encodeState, heldAt, heldFrom, packed, unlessNone, unpacked}
-use Rattle.counting.proofs.CountingCallLaws.{decode-held, no-state, thirteen, twelve}
+use Rattle.counting.proofs.CountingCallLaws.{decode-held, no-state, sixteen, thirteen, twelve}
 use Rattle.counting.proofs.CountingLaws.{counting-step}
-use Rattle.counting.proofs.CountingRanLaws.{counting-number, counting-passes, counting-ran, counting-rows, counting-takes}
+use Rattle.counting.proofs.CountingRanLaws.{counting-number, counting-passes, counting-ran, counting-rows, counting-takes, takes-passes}
 use Rattle.counting.proofs.ExpandCallLaws.{expand-program, expand-ten, expand-writes}
+use Rattle.counting.proofs.SmallStateLaws.{held-counts}
 use Rattle.counting.proofs.StateWordsLaws.{decode-start, encode-decode}
 
 -- WHAT THE NUMBERS STAND FOR
@@ -109,19 +110,20 @@ numbers-mean = record {
 module _ (buf : List ℕ) (used : ℕ) (words store : List ℕ) (bytes : Bytes buf) where
   pub rows-pass : NoRow (countingRows buf used words store) → (P : Block) × (s : State) × Passes (headerOf buf used) P buf used words store s
   rows-pass r =
-      let p = passes-program buf used bytes (r .0, none-split (programRows buf used []) (stateRows buf used words store []) (r .1) .0) in
+      let q = none-split (row 1 (badBuffer buf used) ∷ programRows buf used []) (stateRows buf used words store []) r in
+      let p = passes-program buf used bytes (none-both (row 1 (badBuffer buf used) ∷ programRows buf used []) (row 15 (blockAbove buf used) ∷ []) (q .0) (q .1 .1 .0, tt)) in
       let t = counting-takes (p .1) used words store r in
-      (p .0, t .s, record { program = p .1; low = t .low; deep = t .deep; count = t .count; state = t .state })
+      (p .0, t .s, takes-passes (p .1) used words store t (t .s) (t .state))
 
   takes-iff : (budget : ℕ) → ((runCounting buf used words store budget) .answer .number ≡ 0) ↔ ((P : Block) × (s : State) × Passes (headerOf buf used) P buf used words store s)
   takes-iff budget = (
     (λ z. rows-pass (counting-rows buf used words store budget z)),
-    (λ v. counting-number buf used words store budget ∙ none-first (countingRows buf used words store) (counting-passes (v .2) words store (v .1) (v .2 .state) (v .2 .count))),
+    (λ v. counting-number buf used words store budget ∙ none-first (countingRows buf used words store) (counting-passes (v .2))),
   )
 
 -- THE WORDS HANDED OUT
 
-module _ {h : Header} {P : Block} {buf : List ℕ} {used : ℕ} {words store : List ℕ} {s : State} (a : Accepts h P buf used words store s) where
+module _ {h : Header} {P : Block} {buf : List ℕ} {used : ℕ} {words store : List ℕ} {s : State} (a : Passes h P buf used words store s) where
   hands-out : (budget : ℕ) → let r = runCounting buf used words store budget in r .words ≡ packed (canonical (unpacked (r .words)))
   hands-out budget = let r = counting-ran a budget in r .words ∙ encode-decode P (r .c .state) ((runCounting buf used words store budget) .words) (r .reads)
 
@@ -132,7 +134,7 @@ module _ {h : Header} {P : Block} {buf : List ℕ} {used : ℕ} {words store : L
       let z : (runCounting buf used words store 0) .answer .steps ≡ 0 = omega (arith, r .ran .left) in
       let c₀ : Counting = record { state = s; store = store } in
       let same : c₀ ≡ r .c = Option·some-injective c₀ (r .c) (subst (λ (n : ℕ). iterate (countStep (okOf h)) n c₀ ≡ some (r .c)) z (r .ran .stepped)) in
-      (r .words ∙ ap (λ (c : Counting). encodeState P (c .state)) (sym same) ∙ encode-decode P s words (a .passes .state), r .values ∙ ap (λ (c : Counting). c .store) (sym same))
+      (r .words ∙ ap (λ (c : Counting). encodeState P (c .state)) (sym same) ∙ encode-decode P s words (a .state), r .values ∙ ap (λ (c : Counting). c .store) (sym same))
 
 pub start-expands : (P : Block) → expand (start P) ≡ P
 unfolding expand
@@ -145,6 +147,8 @@ counting-means = record {
   thirteen = thirteen;
   noState = no-state;
   reads = decode-held;
+  sixteen = λ buf used P words store s block. sixteen buf used P words store s block;
+  counts = λ P words s h. held-counts P words s (h .same);
   startReads = decode-start;
   startExpands = start-expands;
   steps = λ h c. counting-step (okOf h) c;

@@ -4,7 +4,7 @@ use Prim.Native.Nat.{_+_, _<_, _≤_, suc, zero, ℕ}
 use mathlib.Core.Path.{ap, refl, subst, sym, _∙_, _≡_}
 use mathlib.Core.Logic.{Iff·trans}
 use mathlib.Core.Bool.{false, not, true}
-use mathlib.Core.List.{List, [], _∷_}
+use mathlib.Core.List.{_++_, List, []}
 use mathlib.Core.Option.{some}
 use borrow.Author.Tests.{le-ltb, ltb-false}
 use lib.Dec.{lit<, ltb}
@@ -14,35 +14,37 @@ use Rattle.record.specs.declared.Header.{Header}
 use Rattle.record.specs.Header.{headerIn, okOf}
 use Rattle.record.specs.Holding.{ProgramIn}
 use Rattle.record.specs.Program.{blockSize}
-use Rattle.record.specs.Rows.{NoRow, Row, badBuffer, blockOf, firstRow, headerOf, kOf, programOf}
-use Rattle.record.proofs.HeaderLaws.{length-encodeProgram, ok-limit, ok-word, word-ok}
-use Rattle.record.proofs.HeldLaws.{good-store, store-good}
-use Rattle.record.proofs.HoldingLaws.{program-as-read, program-block, program-header, program-is, program-k, program-passed, program-passes, program-size}
+use Rattle.record.specs.Rows.{NoRow, Row, badBuffer, blockAbove, blockOf, firstRow, headerOf, kOf, programOf}
+use Rattle.record.proofs.HeaderLaws.{length-encodeProgram, ok-limit, ok-word}
+use Rattle.record.proofs.HeldLaws.{good-store, good-values, store-good, values-good}
+use Rattle.record.proofs.HoldingLaws.{five-passed, five-passes, program-as-read, program-below, program-block, program-header, program-is, program-size}
 use Rattle.record.proofs.RowLaws.{first-none, holds-some, none-first}
 use Rattle.rules.specs.Run.{Ran, noRoom}
 use Rattle.rules.specs.Sound.{SmallValues, SoundConfig}
 use Rattle.rules.specs.Step.{step}
 use Rattle.rules.specs.Syntax.{Block, Config}
 use Rattle.rules.proofs.FinishedLaws.{step-finished}
+use Rattle.rules.proofs.LiteralsLaws.{append-small, small-append}
 use Rattle.rules.proofs.Tests.{true-false}
 use Rattle.run.specs.RanFrom.{RanFrom}
 use Rattle.run.specs.RunAnswer.{accepted, refusal, roomFor, runIn}
 use Rattle.run.proofs.RanLaws.{run-answers}
 use Rattle.counting.specs.CountStep.{countStep}
 use Rattle.counting.specs.Counting.{Counting, State, expandConfig}
-use Rattle.counting.specs.CountingCall.{countedTo, countingBy, countingRows, counts, noBytes, orStart, runCounting, stateRows, tooDeep}
-use Rattle.counting.specs.CountingMeaning.{Accepts, Passes}
-use Rattle.counting.specs.CountingRan.{CountingRan, Words, noRecord}
+use Rattle.counting.specs.CountingCall.{badState, countedTo, countingBy, countingRows, counts, noBytes, orStart, runCounting, stateAbove, stateRows, tooDeep}
+use Rattle.counting.specs.CountingMeaning.{Passes}
+use Rattle.counting.specs.CountingRan.{CountingRan, noRecord}
 use Rattle.counting.specs.Depth.{nesting}
 use Rattle.counting.specs.ReadState.{Read, isRight, right, wrong}
-use Rattle.counting.specs.SmallState.{SmallState}
+use Rattle.counting.specs.SmallState.{SmallState, countsIn}
 use Rattle.counting.specs.StateOf.{StateOf}
 use Rattle.counting.specs.StateWords.{decodeState, encodeState}
-use Rattle.counting.proofs.CountingCallLaws.{bad-state}
+use Rattle.counting.proofs.CountingCallLaws.{bad-state, right-state, state-above}
 use Rattle.counting.proofs.CountingLaws.{counting-step}
 use Rattle.counting.proofs.KeptLaws.{steps-size, steps-small}
+use Rattle.counting.proofs.ReadInversion.{right-injective}
 use Rattle.counting.proofs.SimulationLaws.{onState, run-same}
-use Rattle.counting.proofs.SmallStateLaws.{decode-small}
+use Rattle.counting.proofs.SmallStateLaws.{counts-small, small-counts}
 use Rattle.counting.proofs.SoundStateLaws.{SmallCounting, SoundBlock, counting-sound}
 use Rattle.counting.proofs.StateOfLaws.{steps-of}
 use Rattle.counting.proofs.StateWordsLaws.{decode-encode, decode-of, length-encode}
@@ -77,7 +79,7 @@ module _ (buf : List ℕ) (used : ℕ) (words store : List ℕ) (budget : ℕ) w
 
 -- WHAT ITS ROWS LET THROUGH, of a buffer that holds a program's record
 
-not-wrong : (o : Read State) → not (isRight o) ≡ false → (s : State) × (o ≡ right s)
+pub not-wrong : (o : Read State) → not (isRight o) ≡ false → (s : State) × (o ≡ right s)
 unfolding isRight
 not-wrong (right s) e = (s, refl)
 not-wrong (wrong w) e = true-false e
@@ -86,11 +88,7 @@ right-not : (o : Read State) (s : State) → o ≡ right s → not (isRight o) �
 unfolding isRight
 right-not o s e = rw e refl
 
-right-state : (o : Read State) (s : State) → o ≡ right s → orStart o ≡ s
-unfolding orStart
-right-state o s e = rw e refl
-
--- rows 12, 6 and 13 of the program P that is lent
+-- rows 12, 6, 13 and 16 of the program P that is lent
 module _ (buf : List ℕ) (used : ℕ) (P : Block) (block : blockOf buf used ≡ some P) (words store : List ℕ) where
   pub deep-is : tooDeep buf used ≡ ltb 32 (nesting P)
   unfolding tooDeep
@@ -101,16 +99,33 @@ module _ (buf : List ℕ) (used : ℕ) (P : Block) (block : blockOf buf used ≡
     pub count : length store ≡ kOf buf used
     pub s : State
     pub state : decodeState P words ≡ right s
+    pub values : SmallValues (okOf (headerOf buf used)) store
+    pub small : SmallState (okOf (headerOf buf used)) s
 
   pub state-takes : (more : List Row) → NoRow (stateRows buf used words store more) → StateTakes × NoRow more
   state-takes more r =
-      let t = not-wrong (decodeState P words) (sym (bad-state buf used P words block) ∙ r .1 .1 .0) in
-      (record { deep = ltb-false 32 (nesting P) (sym deep-is ∙ r .0); count = good-store buf used store (r .1 .0); s = t .0; state = t .1 }, r .1 .1 .1)
+      let ok = okOf (headerOf buf used) in
+      let t = not-wrong (decodeState P words) (sym (bad-state buf used P words block) ∙ r .1 .1 .1 .0) in
+      let v = append-small ok store (countsIn (t .0)) (good-values buf used (store ++ countsIn (t .0)) (sym (state-above buf used P words store (t .0) block (t .1)) ∙ r .1 .1 .1 .1 .0)) in (
+        record {
+          deep = ltb-false 32 (nesting P) (sym deep-is ∙ r .0);
+          count = good-store buf used store (r .1 .1 .0);
+          s = t .0;
+          state = t .1;
+          values = v .0;
+          small = counts-small ok (t .0) (v .1);
+        },
+        r .1 .1 .1 .1 .1,
+      )
 
-  pub state-passes : nesting P ≤ 32 → length store ≡ kOf buf used → (s : State) → decodeState P words ≡ right s → (more : List Row) → NoRow more
-      → NoRow (stateRows buf used words store more)
-  state-passes d c s e more r =
-      (deep-is ∙ le-ltb 32 (nesting P) d, (store-good buf used store c, (bad-state buf used P words block ∙ right-not (decodeState P words) s e, r)))
+  pub state-passes : blockAbove buf used ≡ false → StateTakes → (more : List Row) → NoRow more → NoRow (stateRows buf used words store more)
+  state-passes below t more r =
+      let ok = okOf (headerOf buf used) in
+      let thirteen : badState buf used words ≡ false = bad-state buf used P words block ∙ right-not (decodeState P words) (t .s) (t .state) in
+      let sixteen : stateAbove buf used words store ≡ false =
+      state-above buf used P words store (t .s) block (t .state)
+      ∙ values-good buf used (store ++ countsIn (t .s)) (small-append ok store (countsIn (t .s)) (t .values) (small-counts ok (t .s) (t .small))) in
+      (deep-is ∙ le-ltb 32 (nesting P) (t .deep), (below, (store-good buf used store (t .count), (thirteen, (sixteen, r)))))
 
 pub record CountingTakes (h : Header) (P : Block) (buf : List ℕ) (used n : ℕ) (words store : List ℕ) : Type 0 where
   pub low : length buf ≤ 16384
@@ -120,20 +135,37 @@ pub record CountingTakes (h : Header) (P : Block) (buf : List ℕ) (used n : ℕ
   pub count : length store ≡ h .k
   pub s : State
   pub state : decodeState P words ≡ right s
+  pub values : SmallValues (okOf h) store
+  pub small : SmallState (okOf h) s
 
-pub counting-takes : {h : Header} {P : Block} {buf : List ℕ} {used : ℕ} → ProgramIn h P buf used → (n : ℕ) (words store : List ℕ)
-    → NoRow (countingRows buf n words store) → CountingTakes h P buf used n words store
-counting-takes {h} {P} {buf} {used} p n words store r =
-    let q = program-passed p n (badBuffer buf n) (λ e. e) (stateRows buf n words store []) r in
-    let t = state-takes buf n P (ap (blockOf buf) (q .same) ∙ program-block p (q .low)) words store [] (q .behind) .0 in
-    record {
-      low = q .low;
-      same = q .same;
-      deep = t .deep;
-      count = t .count ∙ ap (kOf buf) (q .same) ∙ program-k p;
-      s = t .s;
-      state = t .state;
-    }
+module _ {h : Header} {P : Block} {buf : List ℕ} {used : ℕ} (p : ProgramIn h P buf used) (n : ℕ) (words store : List ℕ) where
+  pub counting-takes : NoRow (countingRows buf n words store) → CountingTakes h P buf used n words store
+  counting-takes r =
+      let q = five-passed p n (badBuffer buf n) (λ e. e) (stateRows buf n words store []) r in
+      let t = state-takes buf n P (ap (blockOf buf) (q .same) ∙ program-block p (q .low)) words store [] (q .behind) .0 in
+      let is : headerOf buf n ≡ h = ap (headerOf buf) (q .same) ∙ program-header p in
+      record {
+        low = q .low;
+        same = q .same;
+        deep = t .deep;
+        count = t .count ∙ ap (λ (x : Header). x .k) is;
+        s = t .s;
+        state = t .state;
+        values = subst (λ (x : Header). SmallValues (okOf x) store) is (t .values);
+        small = subst (λ (x : Header). SmallState (okOf x) (t .s)) is (t .small);
+      }
+
+  -- so what they let through passes, with the state that the words hold
+  pub takes-passes : CountingTakes h P buf used n words store → (s : State) → decodeState P words ≡ right s → Passes h P buf n words store s
+  takes-passes t s e = record {
+    program = subst (ProgramIn h P buf) (sym (t .same)) p;
+    low = t .low;
+    deep = t .deep;
+    count = t .count;
+    state = e;
+    values = t .values;
+    small = subst (SmallState (okOf h)) (right-injective (t .s) s (sym (t .state) ∙ e)) (t .small);
+  }
 
 -- AN ACCEPTED RUN is the run of the state that is lent
 
@@ -149,12 +181,20 @@ module _ {h : Header} {P : Block} {buf : List ℕ} {used : ℕ} {words store : L
   passes-as-read x e =
       subst (λ (y : Header). Passes y P buf used words store s) (sym (program-header (a .program)) ∙ program-header (program-as-read (a .program) x e)) a
 
-  pub state-rows : (words₁ store₁ : List ℕ) (s₁ : State) → decodeState P words₁ ≡ right s₁ → length store₁ ≡ h .k → (more : List Row) → NoRow more
-      → NoRow (stateRows buf used words₁ store₁ more)
-  state-rows words₁ store₁ s₁ e c more r = state-passes buf used P block words₁ store₁ (a .deep) (c ∙ sym (program-k (a .program))) s₁ e more r
+  pub state-rows : (more : List Row) → NoRow more → NoRow (stateRows buf used words store more)
+  state-rows more r =
+      let is : h ≡ headerOf buf used = sym (program-header (a .program)) in
+      state-passes buf used P block words store (program-below (a .program) (a .low)) (record {
+        deep = a .deep;
+        count = a .count ∙ ap (λ (x : Header). x .k) is;
+        s = s;
+        state = a .state;
+        values = subst (λ (x : Header). SmallValues (okOf x) store) is (a .values);
+        small = subst (λ (x : Header). SmallState (okOf x) s) is (a .small);
+      }) more r
 
-  pub counting-passes : (words₁ store₁ : List ℕ) (s₁ : State) → decodeState P words₁ ≡ right s₁ → length store₁ ≡ h .k → NoRow (countingRows buf used words₁ store₁)
-  counting-passes words₁ store₁ s₁ e c = program-passes (a .program) (a .low) (stateRows buf used words₁ store₁ []) (state-rows words₁ store₁ s₁ e c [] tt)
+  pub counting-passes : NoRow (countingRows buf used words store)
+  counting-passes = five-passes (a .program) (a .low) (stateRows buf used words store []) (state-rows [] tt)
 
   pub lent-is : orStart (decodeState (programOf buf used) words) ≡ s
   lent-is = ap (λ (Q : Block). orStart (decodeState Q words)) (program-is (a .program) (a .low)) ∙ right-state (decodeState P words) s (a .state)
@@ -163,36 +203,21 @@ module _ {h : Header} {P : Block} {buf : List ℕ} {used : ℕ} {words store : L
   unfolding runCounting countingBy
   counting-is budget =
       ap (λ (m : ℕ). countingBy m (headerOf buf used) (programOf buf used) words store budget)
-      (none-first (countingRows buf used words store) (counting-passes words store s (a .state) (a .count)))
+      (none-first (countingRows buf used words store) counting-passes)
       ∙ rw (program-header (a .program), program-is (a .program) (a .low))
       (ap (λ (t : State). countedTo P budget (counts h budget (record { state = t; store = store }))) (right-state (decodeState P words) s (a .state)))
 
--- with words and values of 32 bits
-module _ {h : Header} {P : Block} {buf : List ℕ} {used : ℕ} {words store : List ℕ} {s : State} (a : Accepts h P buf used words store s) where
-  abbrev p : Passes h P buf used words store s
-  p = a .passes
+  sound-program : SoundBlock (okOf h) (ok-limit h) (h .k) P
+  sound-program = (a .program .isProgram .variables, a .program .isProgram .literals)
 
+  pub passes-sound : SoundConfig (okOf h) (h .k) (expandConfig (record { state = s; store = store }))
+  passes-sound = counting-sound (okOf h) (ok-limit h) (h .k) P 0 (record { state = s; store = store }) sound-program passes-of (a .small) (a .count) (a .values)
+
+-- WHAT IT ANSWERS AND LEAVES: what it leaves passes again
+
+module _ {h : Header} {P : Block} {buf : List ℕ} {used : ℕ} {words store : List ℕ} {s : State} (a : Passes h P buf used words store s) where
   abbrev c₀ : Counting
   c₀ = record { state = s; store = store }
-
-  sound-program : SoundBlock (okOf h) (ok-limit h) (h .k) P
-  sound-program = (p .program .isProgram .variables, p .program .isProgram .literals)
-
-  -- small: of a sound program
-  words-small : (ws : List ℕ) → Words ws → SmallValues (okOf h) ws
-  words-small [] f = tt
-  words-small (w ∷ ws) f = (word-ok h w (f .0), words-small ws (f .1))
-
-  small-words : (ws : List ℕ) → SmallValues (okOf h) ws → Words ws
-  small-words [] f = tt
-  small-words (w ∷ ws) f = (ok-word h (p .program .header) w (f .0), small-words ws (f .1))
-
-  pub accepts-small : SmallState (okOf h) s
-  accepts-small = decode-small (okOf h) (ok-limit h) P words s (p .state) (words-small words (a .fit))
-
-  pub accepts-sound : SoundConfig (okOf h) (h .k) (expandConfig c₀)
-  accepts-sound =
-      counting-sound (okOf h) (ok-limit h) (h .k) P 0 c₀ sound-program (passes-of p) accepts-small (p .count) (a .values)
 
   module _ (budget : ℕ) where
     abbrev ran : Ran Counting
@@ -213,18 +238,29 @@ module _ {h : Header} {P : Block} {buf : List ℕ} {used : ℕ} {words store : L
         (run-answers (step (okOf h)) noRecord 0 (expandConfig c₀) budget)
 
     left-of : StateOf P 0 (ran .state .state)
-    left-of = steps-of (okOf h) P 0 (ran .count) c₀ (ran .state) (passes-of p) (answers .stepped)
+    left-of = steps-of (okOf h) P 0 (ran .count) c₀ (ran .state) (passes-of a) (answers .stepped)
 
     left-small : SmallCounting (okOf h) (ok-limit h) (h .k) (ran .state)
     left-small =
-        steps-small (okOf h) (ok-limit h) (h .k) P sound-program (ran .count) c₀ (ran .state) (passes-of p) (accepts-small, a .values)
+        steps-small (okOf h) (ok-limit h) (h .k) P (sound-program a) (ran .count) c₀ (ran .state) (passes-of a) (a .small, a .values)
         (answers .stepped)
 
     left-count : length (ran .state .store) ≡ h .k
-    left-count = steps-size (okOf h) (ran .count) (h .k) c₀ (ran .state) (p .count) (answers .stepped)
+    left-count = steps-size (okOf h) (ran .count) (h .k) c₀ (ran .state) (a .count) (answers .stepped)
+
+    left-passes : Passes h P buf used (encodeState P (ran .state .state)) (ran .state .store) (ran .state .state)
+    left-passes = record {
+      program = a .program;
+      low = a .low;
+      deep = a .deep;
+      count = left-count;
+      state = decode-encode P (ran .state .state) left-of (a .deep);
+      values = left-small .1;
+      small = left-small .0;
+    }
 
     short : blockSize P ≤ 16384
-    short = omega (arith, program-size (p .program), length-encodeProgram h P, p .program .within, p .low)
+    short = omega (arith, program-size (a .program), length-encodeProgram h P, a .program .within, a .low)
 
     never : (ran .outcome ≡ noRoom) → ⊥
     never e = let b = answers .noRooms .0 e in omega (arith, b .2)
@@ -240,17 +276,15 @@ module _ {h : Header} {P : Block} {buf : List ℕ} {used : ℕ} {words store : L
           of = left-of;
           words = refl;
           values = refl;
-          size = length-encode P (c .state) left-of (p .deep);
-          fit =
-              small-words (encodeState P (c .state))
-              (words-pass (okOf h) (ok-limit h) 16384 (word-ok h (16384 + 2) (lit< tt)) P (c .state) left-of (left-small .0) short);
+          size = length-encode P (c .state) left-of (a .deep);
+          fit = words-pass (okOf h) 4294967296 16384 (ok-word h (a .program .header)) (lit< tt) P (c .state) left-of (left-small .0) short;
           expands = expands-so;
           finishes = Iff·trans (expands-so .finishes) (unfold expandConfig in (step-finished (okOf h) (expandConfig c)));
-          sound = counting-sound (okOf h) (ok-limit h) (h .k) P 0 c sound-program left-of (left-small .0) left-count (left-small .1);
+          sound = passes-sound left-passes;
           small = left-small .0;
-          reads = decode-encode P (c .state) left-of (p .deep);
-          again = counting-passes p (encodeState P (c .state)) (c .store) (c .state) (decode-encode P (c .state) left-of (p .deep)) left-count;
+          reads = left-passes .state;
+          again = counting-passes left-passes;
         }
 
     pub counting-ran : CountingRan h P buf used c₀ budget (runCounting buf used words store budget)
-    counting-ran = subst (CountingRan h P buf used c₀ budget) (sym (counting-is p budget)) counted
+    counting-ran = subst (CountingRan h P buf used c₀ budget) (sym (counting-is a budget)) counted

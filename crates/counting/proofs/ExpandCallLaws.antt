@@ -13,16 +13,16 @@ use Rattle.record.specs.Holding.{IsProgram, ProgramIn}
 use Rattle.record.specs.Rows.{badBuffer, firstRow, programRows, row, tooLong}
 use Rattle.record.proofs.AnswerLaws.{fits-out, out-fits, ten-iff, wrote-accepted, wrote-number, wrote-refused}
 use Rattle.record.proofs.HeldLaws.{not-long, short-buffer}
-use Rattle.record.proofs.HoldingLaws.{padded-program, program-first, program-header}
+use Rattle.record.proofs.HoldingLaws.{five-first, padded-program, program-header}
 use Rattle.record.proofs.PaddedLaws.{length-padded}
 use Rattle.record.proofs.RowLaws.{first-applies, first-behind, first-none, first-skips, none-first, none-split, or-false, or-right}
 use Rattle.rules.specs.Syntax.{Block}
 use Rattle.rules.proofs.Tests.{true-false}
 use Rattle.counting.specs.Counting.{State, expand, expandConfig}
 use Rattle.counting.specs.CountingCall.{expandCall, expandRows, expanded, stateRows}
-use Rattle.counting.specs.CountingMeaning.{Accepts, Passes}
+use Rattle.counting.specs.CountingMeaning.{Passes}
 use Rattle.counting.specs.CountingRan.{WroteExpansion}
-use Rattle.counting.proofs.CountingRanLaws.{CountingTakes, accepts-sound, counting-takes, lent-is, state-rows}
+use Rattle.counting.proofs.CountingRanLaws.{CountingTakes, counting-takes, lent-is, passes-sound, state-rows}
 
 -- NUMBER AND REFUSAL
 
@@ -50,9 +50,9 @@ module _ {h : Header} {P : Block} {buf : List ℕ} {used : ℕ} {words store : L
     -- the first row that applies is row 10, if it does
     expand-first : firstRow (expandRows buf used words store out) ≡ firstRow (row 10 (tooShort out (expanded buf used words)) ∷ [])
     expand-first =
-        program-first (a .program) (a .low) (badBuffer buf used || tooLong out) (or-right (badBuffer buf used) (tooLong out) (not-long out lo))
+        five-first (a .program) (a .low) (badBuffer buf used || tooLong out) (or-right (badBuffer buf used) (tooLong out) (not-long out lo))
         (stateRows buf used words store (row 10 (tooShort out (expanded buf used words)) ∷ []))
-        ∙ first-behind (stateRows buf used words store []) (row 10 (tooShort out (expanded buf used words)) ∷ []) (state-rows a words store s (a .state) (a .count) [] tt)
+        ∙ first-behind (stateRows buf used words store []) (row 10 (tooShort out (expanded buf used words)) ∷ []) (state-rows a [] tt)
 
     pub expand-ten : ((expandCall buf used words store out) .number ≡ 10) ↔ (length out < length (encodeProgram h (expand s)))
     expand-ten =
@@ -67,18 +67,17 @@ module _ {h : Header} {P : Block} {buf : List ℕ} {used : ℕ} {words store : L
         (expand-first ∙ none-first (row 10 (tooShort out (expanded buf used words)) ∷ []) (ap (tooShort out) expanded-is ∙ fits-out out (encodeProgram h (expand s)) f, tt))
         ∙ ap (λ (b : List ℕ). record { number = 0; used = length b; written = padded (length out) b }) expanded-is
 
-module _ {h : Header} {P : Block} {buf : List ℕ} {used : ℕ} {words store : List ℕ} {s : State} (a : Accepts h P buf used words store s) where
   -- the expansion is a program under the same header
   pub expand-program : IsProgram h (expand s)
   unfolding expandConfig
-  expand-program = let c = accepts-sound a in record { variables = c .variables .block; literals = c .literals }
+  expand-program = let c = passes-sound a in record { variables = c .variables .block; literals = c .literals }
 
   pub expand-writes : (out : List ℕ) → length out ≤ 16384 → length (encodeProgram h (expand s)) ≤ length out → WroteExpansion h s out (expandCall buf used words store out)
-  expand-writes out lo f = subst (WroteExpansion h s out) (sym (expand-is (a .passes) out lo f)) (record {
+  expand-writes out lo f = subst (WroteExpansion h s out) (sym (expand-is out lo f)) (record {
     number = refl;
     used = refl;
     written = refl;
-    program = padded-program h (expand s) (length out) (a .passes .program .header) expand-program;
+    program = padded-program h (expand s) (length out) (a .program .header) expand-program;
     room = length-padded (length out) (encodeProgram h (expand s)) f;
     low = lo;
   })
@@ -89,7 +88,7 @@ module _ {h : Header} {P : Block} {buf : List ℕ} {used : ℕ} {words store : L
       let r = first-none (expandRows buf used words store out) refl (sym (expand-number buf used words store out) ∙ z) in
       let lo = short-buffer out (or-false (badBuffer buf used) (tooLong out) (r .0) .1) in
       let ten = none-split (programRows buf used (stateRows buf used words store [])) (row 10 (tooShort out (expanded buf used words)) ∷ []) (r .1) .1 in
-      expand-writes out lo (out-fits out (encodeProgram h (expand s)) (sym (ap (tooShort out) (expanded-is (a .passes))) ∙ ten .0))
+      expand-writes out lo (out-fits out (encodeProgram h (expand s)) (sym (ap (tooShort out) expanded-is) ∙ ten .0))
 
 -- WHAT ITS ROWS LET THROUGH, of a buffer that holds a program's record: what the run's do, and an output buffer that is not too long
 pub expand-takes : {h : Header} {P : Block} {buf : List ℕ} {used : ℕ} → ProgramIn h P buf used → (n : ℕ) (words store out : List ℕ)

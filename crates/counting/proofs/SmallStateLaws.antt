@@ -1,83 +1,78 @@
--- The values that a state holds pass where its numbers do; so words whose values pass hold such a state.
+-- The values that a state holds: each passes exactly where the state is small; and where words hold the state, they are the words' own.
 use Prim.Native.Nat.{_+_, suc, zero, ℕ}
-use mathlib.Core.Path.{subst, sym, _≡_}
-use mathlib.Core.Bool.{Bool, true}
-use mathlib.Core.List.{List, [], _∷_, map}
-use lib.ListN.{getD}
+use mathlib.Core.Path.{ap, ap₂, refl, sym, _∙_, _≡_}
+use mathlib.Core.Bool.{Bool}
+use mathlib.Core.List.{_++_, List, [], _∷_, map}
 use native.Mathlib.Nat.{zero-add}
 use Rattle.rules.specs.Sound.{SmallValues}
-use Rattle.rules.specs.Store.{Limit}
 use Rattle.rules.specs.Syntax.{Block}
 use Rattle.counting.specs.Counting.{State, atZero, here, inBlock, inBody, storing, summed, unrolling}
-use Rattle.counting.specs.Held.{Held, Numbers, around, blockNumbers, heldBlock, heldLoop, leftAtBlock, leftAtLoop, canonical, canonicalAs, canonicalHeld, numbers, shutAt, turnNumbers, waitingSum}
+use Rattle.counting.specs.Held.{Held, Numbers, around, blockNumbers, canonical, canonicalAs, canonicalHeld, heldBlock, heldLoop, leftAtBlock, leftAtLoop, mark, numbers, shutAt, turnNumbers, waitingSum}
 use Rattle.counting.specs.Place.{bodyAt, insideAt, placeOf}
 use Rattle.counting.specs.ReadState.{right}
-use Rattle.counting.specs.SmallState.{SmallState}
-use Rattle.counting.specs.StateWords.{decodeState, heldAt, heldFrom, unlessNone, unpacked}
+use Rattle.counting.specs.SmallState.{SmallState, countsIn, countsOf, sumOf, topAs, topsOf}
+use Rattle.counting.specs.StateWords.{decodeState, unpacked}
 use Rattle.counting.proofs.CanonicalLaws.{numbers-read}
 
--- The top counts of entries pass.
-abbrev SmallTops : (ℕ → Bool) → List Held → Type 0
-SmallTops ok [] = Unit {0}
-SmallTops ok (h ∷ hs) = (ok (h .top) ≡ true) × SmallTops ok hs
+module _ (ok : ℕ → Bool) where
+  pub counts-small : (s : State) → SmallValues ok (countsIn s) → SmallState ok s
+  unfolding countsIn
+  counts-small (here r) h = tt
+  counts-small (summed x e v r) h = h .0
+  counts-small (inBlock q s r) h = counts-small s h
+  counts-small (unrolling x c d q r) h = h .0
+  counts-small (atZero x d q r) h = h .0
+  counts-small (storing x c d q r) h = h .0
+  counts-small (inBody x c d q s r) h = (h .0, counts-small s (h .1))
 
-module _ (ok : ℕ → Bool) (limit : Limit ok) where
-  -- THE STATE'S NUMBERS
+  pub small-counts : (s : State) → SmallState ok s → SmallValues ok (countsIn s)
+  unfolding countsIn
+  small-counts (here r) h = tt
+  small-counts (summed x e v r) h = (h, tt)
+  small-counts (inBlock q s r) h = small-counts s h
+  small-counts (unrolling x c d q r) h = (h, tt)
+  small-counts (atZero x d q r) h = (h, tt)
+  small-counts (storing x c d q r) h = (h, tt)
+  small-counts (inBody x c d q s r) h = (h .0, small-counts s (h .1))
 
-  abbrev Small : Numbers → Type 0
-  Small w = SmallTops ok (w .held) × (ok (w .sum) ≡ true)
+-- THE STATE'S NUMBERS hold them
 
-  numbers-small : (s : State) (b : Block) (a : ℕ) → Small (numbers s b a) → SmallState ok s
-  unfolding numbers shutAt blockNumbers turnNumbers around heldLoop
-  numbers-small (here r) b a h = tt
-  numbers-small (summed x e v r) b a h = h .1
-  numbers-small (inBlock q s r) b a h = numbers-small s q (insideAt (placeOf b a (leftAtBlock q r))) (h .0 .1, h .1)
-  numbers-small (unrolling x c d q r) b a h = h .0 .0
-  numbers-small (atZero x d q r) b a h = subst (λ (n : ℕ). ok n ≡ true) (zero-add d) (h .0 .0)
-  numbers-small (storing x c d q r) b a h = h .0 .0
-  numbers-small (inBody x c d q s r) b a h = (h .0 .0, numbers-small s q (bodyAt (placeOf b a (leftAtLoop q r))) (h .0 .1, h .1))
+numbers-counts : (s : State) (b : Block) (a : ℕ) → countsOf (numbers s b a) ≡ countsIn s
+unfolding numbers shutAt blockNumbers turnNumbers around heldBlock heldLoop countsOf topsOf topAs sumOf countsIn
+numbers-counts (here r) b a = refl
+numbers-counts (summed x e v r) b a = refl
+numbers-counts (inBlock q s r) b a = numbers-counts s q (insideAt (placeOf b a (leftAtBlock q r)))
+numbers-counts (unrolling x c d q r) b a = refl
+numbers-counts (atZero x d q r) b a = ap (λ (n : ℕ). n ∷ []) (zero-add d)
+numbers-counts (storing x c d q r) b a = refl
+numbers-counts (inBody x c d q s r) b a = ap (λ (l : List ℕ). (c + d) ∷ l) (numbers-counts s q (bodyAt (placeOf b a (leftAtLoop q r))))
 
-  -- WORDS
+-- and made canonical, numbers hold the same
 
-  canonical-top : (what : ℕ) (h : Held) → ok (h .top) ≡ true → ok ((canonicalAs what h) .top) ≡ true
-  unfolding canonicalAs heldBlock
-  canonical-top zero h e = e
-  canonical-top (suc zero) h e = limit .zeroPasses
-  canonical-top (suc (suc n)) h e = e
+canonical-top : (what : ℕ) (h : Held) → h .what ≡ what → (more : List ℕ) → topAs ((canonicalAs what h) .what) ((canonicalAs what h) .top) more ≡ topAs (h .what) (h .top) more
+unfolding canonicalAs heldBlock topAs
+canonical-top zero h e more = refl
+canonical-top (suc zero) h e more = rw e refl
+canonical-top (suc (suc n)) h e more = refl
 
-  canonical-tops : (hs : List Held) → SmallTops ok hs → SmallTops ok (map canonicalHeld hs)
-  unfolding canonicalHeld
-  canonical-tops [] h = tt
-  canonical-tops (g ∷ hs) h = (canonical-top (g .what) g (h .0), canonical-tops hs (h .1))
+canonical-tops : (hs : List Held) → topsOf (map canonicalHeld hs) ≡ topsOf hs
+unfolding topsOf canonicalHeld
+canonical-tops [] = refl
+canonical-tops (h ∷ hs) = canonical-top (h .what) h refl (topsOf (map canonicalHeld hs)) ∙ ap (topAs (h .what) (h .top)) (canonical-tops hs)
 
-  sum-passes : (w v : ℕ) → ok v ≡ true → ok (waitingSum w v) ≡ true
-  unfolding waitingSum
-  sum-passes zero v h = limit .zeroPasses
-  sum-passes (suc w) v h = h
+canonical-sum : (w v : ℕ) → sumOf (mark w) (waitingSum w v) ≡ sumOf w v
+unfolding sumOf mark waitingSum
+canonical-sum zero v = refl
+canonical-sum (suc w) v = refl
 
-  canonical-small : (w : Numbers) → SmallTops ok (w .held) → ok (w .sum) ≡ true → Small (canonical w)
-  unfolding canonical
-  canonical-small w t v = (canonical-tops (w .held) t, sum-passes (w .waits) (w .sum) v)
+canonical-counts : (w : Numbers) → countsOf (canonical w) ≡ countsOf w
+unfolding countsOf canonical
+canonical-counts w = ap₂ (λ (x y : List ℕ). x ++ y) (canonical-tops (w .held)) (canonical-sum (w .waits) (w .sum))
 
-  word-passes : (ws : List ℕ) (i : ℕ) → SmallValues ok ws → ok (getD ws i 0) ≡ true
-  word-passes [] i h = limit .zeroPasses
-  word-passes (v ∷ ws) zero h = h .0
-  word-passes (v ∷ ws) (suc i) h = word-passes ws i (h .1)
+-- WORDS that hold a state
+pub held-counts : (P : Block) (ws : List ℕ) (s : State) → numbers s P 0 ≡ canonical (unpacked ws) → countsIn s ≡ countsOf (unpacked ws)
+held-counts P ws s e = sym (numbers-counts s P 0) ∙ ap countsOf e ∙ canonical-counts (unpacked ws)
 
-  unless-tops : (what : ℕ) (h : Held) (hs : List Held) → ok (h .top) ≡ true → SmallTops ok hs → SmallTops ok (unlessNone what h hs)
-  unfolding unlessNone
-  unless-tops zero h hs e t = tt
-  unless-tops (suc what) h hs e t = (e, t)
-
-  from-tops : (ws : List ℕ) (n i : ℕ) → SmallValues ok ws → SmallTops ok (heldFrom ws i n)
-  unfolding heldFrom
-  from-tops ws zero i h = tt
-  from-tops ws (suc n) i h = unless-tops (getD ws i 0) (heldAt ws i) (heldFrom ws (i + 6) n) (unfold heldAt in (word-passes ws (i + 2) h)) (from-tops ws n (i + 6) h)
-
-  -- words that all pass, as values of 32 bits do, hold a state whose values pass
-  pub decode-small : (P : Block) (ws : List ℕ) (s : State) → decodeState P ws ≡ right s → SmallValues ok ws → SmallState ok s
-  unfolding decodeState
-  decode-small P ws s e h =
-      let t : SmallTops ok ((unpacked ws) .held) = unfold unpacked in (from-tops ws 31 3 h) in
-      let v : ok ((unpacked ws) .sum) ≡ true = unfold unpacked in (word-passes ws 2 h) in
-      numbers-small s P 0 (subst Small (sym (numbers-read (unpacked ws) P 0 s e)) (canonical-small (unpacked ws) t v))
+pub decode-counts : (P : Block) (ws : List ℕ) (s : State) → decodeState P ws ≡ right s → countsIn s ≡ countsOf (unpacked ws)
+unfolding decodeState
+decode-counts P ws s e = held-counts P ws s (numbers-read (unpacked ws) P 0 s e)

@@ -1,12 +1,12 @@
 -- THE RUN of the counting stepper, and THE WRITING OUT of its state, over bytes and words (02 C-14).
 use Prim.Native.Nat.{suc, zero, ℕ}
 use mathlib.Core.Bool.{Bool, not, _||_}
-use mathlib.Core.List.{List, [], _∷_}
+use mathlib.Core.List.{_++_, List, [], _∷_}
 use lib.Dec.{ltb}
 use Rattle.record.specs.Answers.{Wrote, tooShort, wroteBy}
 use Rattle.record.specs.declared.Header.{Header}
 use Rattle.record.specs.Header.{encodeProgram, okOf}
-use Rattle.record.specs.Rows.{Row, badBuffer, badStore, blockOf, firstRow, headerOf, holds, programOf, programRows, row, tooLong}
+use Rattle.record.specs.Rows.{Row, badBuffer, badStore, blockAbove, blockOf, firstRow, headerOf, holds, programOf, programRows, row, tooLong, valuesAbove}
 use Rattle.rules.specs.Run.{Ran}
 use Rattle.rules.specs.Syntax.{Block, empty}
 use Rattle.run.specs.RunAnswer.{RunAnswer, accepted, refusal, runIn}
@@ -14,6 +14,7 @@ use Rattle.counting.specs.CountStep.{countStep}
 use Rattle.counting.specs.Counting.{Counting, State, expand, start}
 use Rattle.counting.specs.Depth.{nesting}
 use Rattle.counting.specs.ReadState.{Read, isRight, right, wrong}
+use Rattle.counting.specs.SmallState.{countsIn}
 use Rattle.counting.specs.StateWords.{decodeState, encodeState}
 
 -- THE ROWS
@@ -26,9 +27,23 @@ tooDeep buf used = holds (λ P. ltb 32 (nesting P)) (blockOf buf used)
 unfoldable pub badState : List ℕ → ℕ → List ℕ → Bool
 badState buf used words = holds (λ P. not (isRight (decodeState P words))) (blockOf buf used)
 
--- Rows 12, 6 and 13, and then more.
+-- The state that was read; where something is wrong, the start of the empty program stands in.
+unfoldable pub orStart : Read State → State
+orStart (right s) = s
+orStart (wrong w) = start empty
+
+-- 16, of a state: a value above the ceiling in its store, or a top count or waiting sum above it
+unfoldable pub stateAbove : List ℕ → ℕ → List ℕ → List ℕ → Bool
+stateAbove buf used words store = valuesAbove buf used (store ++ countsIn (orStart (decodeState (programOf buf used) words)))
+
+-- Rows 6, 13 and 16, and then more.
+abbrev pub lentRows : List ℕ → ℕ → List ℕ → List ℕ → List Row → List Row
+lentRows buf used words store more =
+    row 6 (badStore buf used store) ∷ row 13 (badState buf used words) ∷ row 16 (stateAbove buf used words store) ∷ more
+
+-- Rows 12, 15, 6, 13 and 16, and then more.
 abbrev pub stateRows : List ℕ → ℕ → List ℕ → List ℕ → List Row → List Row
-stateRows buf used words store more = row 12 (tooDeep buf used) ∷ row 6 (badStore buf used store) ∷ row 13 (badState buf used words) ∷ more
+stateRows buf used words store more = row 12 (tooDeep buf used) ∷ row 15 (blockAbove buf used) ∷ lentRows buf used words store more
 
 -- The rows of the run, in the order of the table.
 abbrev pub countingRows : List ℕ → ℕ → List ℕ → List ℕ → List Row
@@ -41,11 +56,6 @@ pub record CountingCall : Type 0 where
   pub answer : RunAnswer
   pub words : List ℕ
   pub store : List ℕ
-
--- The state that was read; where something is wrong, the start of the empty program stands in.
-unfoldable pub orStart : Read State → State
-orStart (right s) = s
-orStart (wrong w) = start empty
 
 -- The state and the store that are lent.
 abbrev pub lent : Block → List ℕ → List ℕ → Counting
@@ -73,7 +83,7 @@ unfoldable pub runCounting : List ℕ → ℕ → List ℕ → List ℕ → ℕ 
 runCounting buf used words store budget =
     countingBy (firstRow (countingRows buf used words store)) (headerOf buf used) (programOf buf used) words store budget
 
--- THE WRITING OUT: rows 1 to 5, 12, 6, 13 and 10. Row 1 looks at both buffers.
+-- THE WRITING OUT: rows 1 to 5, 12, 15, 6, 13, 16 and 10. Row 1 looks at both buffers.
 
 -- The record that answers: the expansion's, with the program's header.
 abbrev pub expanded : List ℕ → ℕ → List ℕ → List ℕ

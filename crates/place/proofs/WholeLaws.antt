@@ -18,7 +18,7 @@ use Rattle.buffer.proofs.SliceLaws.{length-zeros, put-re}
 use Rattle.buffer.proofs.StoresLaws.{stores-2}
 use Rattle.record.specs.Answers.{padded}
 use Rattle.record.proofs.HeaderLaws.{length-blockBytes, length-encodeProgram, length-encodeTerm, length-encodeTermRecord, length-fields}
-use Rattle.record.proofs.HoldingLaws.{program-size, program-words, term-size, term-words}
+use Rattle.record.proofs.HoldingLaws.{BlockHeld, block-size, program-held, term-size, term-words}
 use Rattle.record.proofs.PaddedLaws.{padded-zeros}
 use Rattle.record.proofs.ProgramLaws.{length-encodeBlock}
 use Rattle.rules.specs.FreeVariables.{Vars}
@@ -140,24 +140,35 @@ encodeProgram-relength h up down n used p b l held e s =
     headed-relength blocks program h blocks-nest up down n (empty ∷ p) b l (drop used l) (rw (rests-empty p) is) e (omega (arith, around-empty p))
     ∙ ap (λ (y : List ℕ). y ++ drop used l) (sym (encodeProgram-headed h p b))
 
--- A BUFFER THAT HOLDS A PROGRAM: its commands stand behind the header and the head of its block
-module _ {h : Header} {P : Block} {buf : List ℕ} {used : ℕ} (p : ProgramIn h P buf used) where
-  pub program-used : blockAt h + blockSize P ≡ used
-  program-used = omega (arith, program-size p, length-encodeProgram h P)
+-- A BUFFER THAT HOLDS A BLOCK'S RECORD: its commands stand behind the header and the head of the block
+module _ {h : Header} {P : Block} {buf : List ℕ} {used : ℕ} (b : BlockHeld h P buf used) where
+  pub commands-used : blockAt h + blockSize P ≡ used
+  commands-used = omega (arith, block-size b, length-encodeProgram h P)
 
-  pub program-split : buf ≡ encodeProgram h P ++ drop used buf
-  program-split = take-split used buf (encodeProgram h P) (p .bytes)
+  record-split : buf ≡ encodeProgram h P ++ drop used buf
+  record-split = take-split used buf (encodeProgram h P) (b .bytes)
 
-  pub program-at : length buf ≤ 16384 → BlockAt buf (blockAt h) P
-  program-at s =
+  pub commands-at : length buf ≤ 16384 → BlockAt buf (blockAt h) P
+  commands-at s =
       let e : encodeProgram h P ≡ programFront h [] (blockSize P) ++ (encodeBlock P ++ rests blocks []) =
       ap (encodeProgram h) (sym (plug-nil blocks P)) ∙ encodeProgram-plug h [] P in
-      let w : At buf 0 (encodeProgram h P) = record { pre = []; post = drop used buf; is = program-split; len = refl } in
+      let w : At buf 0 (encodeProgram h P) = record { pre = []; post = drop used buf; is = record-split; len = refl } in
       record {
         here = at-part w (programFront h [] (blockSize P)) (encodeBlock P) (rests blocks []) (blockAt h) e (omega (arith, length-programFront h [] (blockSize P)));
-        words = program-words p;
-        small = omega (arith, program-used, p .within);
+        words = b .words;
+        small = omega (arith, commands-used, b .within);
       }
+
+-- and so do a program's
+module _ {h : Header} {P : Block} {buf : List ℕ} {used : ℕ} (p : ProgramIn h P buf used) where
+  pub program-used : blockAt h + blockSize P ≡ used
+  program-used = commands-used (program-held p)
+
+  pub program-split : buf ≡ encodeProgram h P ++ drop used buf
+  program-split = record-split (program-held p)
+
+  pub program-at : length buf ≤ 16384 → BlockAt buf (blockAt h) P
+  program-at s = commands-at (program-held p) s
 
 -- TERMS
 

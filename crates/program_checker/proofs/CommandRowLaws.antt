@@ -25,16 +25,16 @@ use Rattle.program_checker.specs.OpensCommand.{ChecksCommand}
 use Rattle.program_checker.proofs.ProgramVerdictLaws.{empty-verdict, joined-verdict}
 
 -- the commands from `at` up to `end`
-abbrev pub rowVerdict : ℕ → List ℕ → ℕ → ℕ → Verdict
-rowVerdict k s at end = blockVerdict k (decodeBlock (between s at end))
+abbrev pub rowVerdict : ℕ → ℕ → List ℕ → ℕ → ℕ → Verdict
+rowVerdict k largest s at end = blockVerdict k largest (decodeBlock (between s at end))
 
 -- the same parts in the order in which they are checked
 reorder : (f v i r : Verdict) → worse f (worse (worse v i) r) ≡ worse (worse (worse f r) v) i
 reorder f v i r =
     ap (worse f) (worse-comm (worse v i) r ∙ sym (worse-assoc r v i)) ∙ sym (worse-assoc f (worse r v) i) ∙ ap (λ (x : Verdict). worse x i) (sym (worse-assoc f r v))
 
-pub row-end : (k : ℕ) (s : List ℕ) (at end : ℕ) → end ≤ length s → end ≤ at → rowVerdict k s at end ≡ Good
-row-end k s at end fits h = empty-verdict k (between s at end) (omega (arith, length-between s at end fits))
+pub row-end : (k largest : ℕ) (s : List ℕ) (at end : ℕ) → end ≤ length s → end ≤ at → rowVerdict k largest s at end ≡ Good
+row-end k largest s at end fits h = empty-verdict k largest (between s at end) (omega (arith, length-between s at end fits))
 
 -- The first command of the row is a record that ends at `next`.
 pub record FirstCommand (s : List ℕ) (at end next : ℕ) : Type 0 where
@@ -43,12 +43,12 @@ pub record FirstCommand (s : List ℕ) (at end next : ℕ) : Type 0 where
   pub stands : Front (between s at end) (next - at)
 
 -- After a turn the verdict on the row is the worse of what was found and the verdict on what is left, as it was before.
-pub record Turned (k : ℕ) (s : List ℕ) (at end : ℕ) (found : Verdict) (left stop : ℕ) (now : Verdict) : Type 0 where
+pub record Turned (k largest : ℕ) (s : List ℕ) (at end : ℕ) (found : Verdict) (left stop : ℕ) (now : Verdict) : Type 0 where
   pub low : left ≤ stop
   pub high : stop ≤ end
-  pub same : worse found (rowVerdict k s at end) ≡ worse now (rowVerdict k s left stop)
+  pub same : worse found (rowVerdict k largest s at end) ≡ worse now (rowVerdict k largest s left stop)
 
-module _ (k : ℕ) (s : List ℕ) (at end : ℕ) (fits : end ≤ length s) where
+module _ (k largest : ℕ) (s : List ℕ) (at end : ℕ) (fits : end ≤ length s) where
   -- WHAT THE READER FINDS
 
   row-length : length (take end s) ≡ end
@@ -57,9 +57,9 @@ module _ (k : ℕ) (s : List ℕ) (at end : ℕ) (fits : end ≤ length s) where
   pub row-left : at < end → headAt (take end s) at ≡ End → ⊥
   row-left h e = omega (arith, row-length, end-tells (take end s) at e)
 
-  pub row-short : at < end → headAt (take end s) at ≡ Short → rowVerdict k s at end ≡ Malformed
+  pub row-short : at < end → headAt (take end s) at ≡ Short → rowVerdict k largest s at end ≡ Malformed
   row-short h e =
-      ap (blockVerdict k) (decode-bad (between s at end) (sym (ap split (drop-take at end s)) ∙ short-bad (take end s) at (omega (arith, row-length)) e))
+      ap (blockVerdict k largest) (decode-bad (between s at end) (sym (ap split (drop-take at end s)) ∙ short-bad (take end s) at (omega (arith, row-length)) e))
 
   pub row-first : (n kind next : ℕ) → headAt (take end s) at ≡ Record n kind → next ≡ nextAt (take end s) at → FirstCommand s at end next
   row-first n kind next stands goes-on =
@@ -85,44 +85,44 @@ module _ (k : ℕ) (s : List ℕ) (at end : ℕ) (fits : end ≤ length s) where
     pub first-front : Front (between s at next) (length (between s at next))
     first-front = rw (command-length, ← taken) (front-take (between s at end) (next - at) (f .stands))
 
-    row-command : rowVerdict k s at end ≡ worse (rowVerdict k s at next) (rowVerdict k s next end)
+    row-command : rowVerdict k largest s at end ≡ worse (rowVerdict k largest s at next) (rowVerdict k largest s next end)
     row-command =
         let dropped : drop (next - at) (between s at end) ≡ between s next end = drop-between s at end (next - at) ∙ ap (λ (x : ℕ). between s x end) is-next in
-        ap (blockVerdict k) (decode-front (between s at end) (next - at) (f .stands))
-        ∙ joined-verdict k (decodeBlock (take (next - at) (between s at end))) (decodeBlock (drop (next - at) (between s at end)))
+        ap (blockVerdict k largest) (decode-front (between s at end) (next - at) (f .stands))
+        ∙ joined-verdict k largest (decodeBlock (take (next - at) (between s at end))) (decodeBlock (drop (next - at) (between s at end)))
         ∙ rw (taken, dropped) refl
 
     -- A TURN: the rest of the row is checked first, or there is none, or the whole command is checked
 
-    module _ (whole : Bool) (v : Verdict) (inner : ℕ) (o : ChecksCommand k (between s at next) whole v inner) where
-      opened : rowVerdict k s at end ≡ worse (worse v (rowVerdict k s (at + inner) next)) (rowVerdict k s next end)
+    module _ (whole : Bool) (v : Verdict) (inner : ℕ) (o : ChecksCommand k largest (between s at next) whole v inner) where
+      opened : rowVerdict k largest s at end ≡ worse (worse v (rowVerdict k largest s (at + inner) next)) (rowVerdict k largest s next end)
       opened = row-command ∙ rw (o .opens .both, drop-between s at next inner) refl
 
       pub row-inner : at + inner ≤ next
       row-inner = omega (arith, o .opens .most, command-length, f .least)
 
       module _ (found now : Verdict) (stop : ℕ) where
-        pub turn-rest : now ≡ worse (worse found (rowVerdict k s next end)) v → stop ≡ next → Turned k s at end found (at + inner) stop now
+        pub turn-rest : now ≡ worse (worse found (rowVerdict k largest s next end)) v → stop ≡ next → Turned k largest s at end found (at + inner) stop now
         turn-rest is-now is-stop = record {
           low = omega (arith, row-inner);
           high = omega (arith, f .most);
-          same = ap (worse found) opened ∙ reorder found v (rowVerdict k s (at + inner) next) (rowVerdict k s next end) ∙ rw (is-now, is-stop) refl;
+          same = ap (worse found) opened ∙ reorder found v (rowVerdict k largest s (at + inner) next) (rowVerdict k largest s next end) ∙ rw (is-now, is-stop) refl;
         }
 
         -- nothing is left of the one or of the other
-        turn-one : worse v (rowVerdict k s (at + inner) end) ≡ rowVerdict k s at end → now ≡ worse found v → stop ≡ end → Turned k s at end found (at + inner) stop now
+        turn-one : worse v (rowVerdict k largest s (at + inner) end) ≡ rowVerdict k largest s at end → now ≡ worse found v → stop ≡ end → Turned k largest s at end found (at + inner) stop now
         turn-one is is-now is-stop = record {
           low = omega (arith, row-inner, f .most);
           high = omega arith;
-          same = ap (worse found) (sym is) ∙ sym (worse-assoc found v (rowVerdict k s (at + inner) end)) ∙ rw (is-now, is-stop) refl;
+          same = ap (worse found) (sym is) ∙ sym (worse-assoc found v (rowVerdict k largest s (at + inner) end)) ∙ rw (is-now, is-stop) refl;
         }
 
-        pub turn-last : end ≤ next → now ≡ worse found v → stop ≡ end → Turned k s at end found (at + inner) stop now
+        pub turn-last : end ≤ next → now ≡ worse found v → stop ≡ end → Turned k largest s at end found (at + inner) stop now
         turn-last none =
             let is-end : next ≡ end = omega (arith, f .most) in
-            turn-one (sym (opened ∙ rw (row-end k s next end fits none, is-end) (worse-good (worse v (rowVerdict k s (at + inner) end)))))
+            turn-one (sym (opened ∙ rw (row-end k largest s next end fits none, is-end) (worse-good (worse v (rowVerdict k largest s (at + inner) end)))))
 
-        pub turn-whole : whole ≡ true → now ≡ worse found v → stop ≡ end → Turned k s at end found (at + inner) stop now
+        pub turn-whole : whole ≡ true → now ≡ worse found v → stop ≡ end → Turned k largest s at end found (at + inner) stop now
         turn-whole all =
             let is-next : at + inner ≡ next = omega (arith, o .all all, command-length, f .least) in
-            turn-one (sym (opened ∙ rw (row-end k s (at + inner) next (omega (arith, f .most)) (omega arith), is-next, worse-good v) refl))
+            turn-one (sym (opened ∙ rw (row-end k largest s (at + inner) next (omega (arith, f .most)) (omega arith), is-next, worse-good v) refl))

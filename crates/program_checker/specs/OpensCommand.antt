@@ -11,12 +11,12 @@ use Rattle.program_checker.specs.BlockVerdict.{blockVerdict}
 
 -- The head of the record l was found to be v, and the commands inside it start at `inner`: the verdict on the record is
 -- the worse of the two.
-pub record OpensCommand (k : ℕ) (l : List ℕ) (v : Verdict) (inner : ℕ) : Type 0 where
+pub record OpensCommand (k largest : ℕ) (l : List ℕ) (v : Verdict) (inner : ℕ) : Type 0 where
   pub least : 4 ≤ inner
   pub most : inner ≤ length l
-  pub both : blockVerdict k (decodeBlock l) ≡ worse v (blockVerdict k (decodeBlock (drop inner l)))
+  pub both : blockVerdict k largest (decodeBlock l) ≡ worse v (blockVerdict k largest (decodeBlock (drop inner l)))
 
 -- The same, and where the whole record is to be checked nothing is left inside it: v is the verdict on all of it.
-pub record ChecksCommand (k : ℕ) (l : List ℕ) (whole : Bool) (v : Verdict) (inner : ℕ) : Type 0 where
-  pub opens : OpensCommand k l v inner
+pub record ChecksCommand (k largest : ℕ) (l : List ℕ) (whole : Bool) (v : Verdict) (inner : ℕ) : Type 0 where
+  pub opens : OpensCommand k largest l v inner
   pub all : whole ≡ true → inner ≡ length l

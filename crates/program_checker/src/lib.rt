@@ -5,6 +5,7 @@ use checker::Verdict;
 use checker::answer;
 use checker::bad_buffer;
 use checker::check_header;
+use checker::check_value;
 use checker::check_variable;
 use checker::number_of;
 use checker::worst;
@@ -19,7 +20,6 @@ use record::refusal::BAD_BUFFER;
 ghost use mathlib.Core.Bool.{false};
 ghost use mathlib.Core.Path.{_≡_};
 ghost use lib.ListN.{drop, length};
-ghost use Rattle.rules.specs.Scope.{boundInRange, exprInRange};
 ghost use Rattle.record.specs.Answers.{checkProgram};
 ghost use Rattle.record.specs.Front.{Front, only, u16};
 ghost use Rattle.record.specs.Header.{blockIn};
@@ -28,7 +28,7 @@ ghost use Rattle.record.specs.Rows.{badBuffer};
 ghost use Rattle.checker.specs.Answer.{asChecked};
 ghost use Rattle.checker.specs.Verdict.{verdict};
 ghost use Rattle.checker.specs.declared.Verdict.the-variants.{Malformed};
-ghost use Rattle.program_checker.specs.BlockVerdict.{blockVerdict};
+ghost use Rattle.program_checker.specs.BlockVerdict.{blockVerdict, boundRating, exprRating};
 ghost use Rattle.program_checker.specs.OpensCommand.{ChecksCommand, OpensCommand};
 
 // A command that was opened: what its head was found to be, and where the commands inside it start.
@@ -37,9 +37,9 @@ struct Opened {
     inner: usize,
 }
 
-fn check_expression(s: &[u8], k: u32) -> Verdict
+fn check_expression(s: &[u8], k: u32, largest: u32) -> Verdict
     requires { ⌜ length (now s) ≡ 8 ⌝ }
-    ensures { λ r. ⌜ r ≡ verdict (exprInRange k) (only (readExpr (now (s .entry)))) ⌝ }
+    ensures { λ r. ⌜ r ≡ verdict (exprRating k largest) (only (readExpr (now (s .entry)))) ⌝ }
 {
     if buffer::get_u16(s, 0) != 8 {
         return Verdict::Malformed;
@@ -48,7 +48,7 @@ fn check_expression(s: &[u8], k: u32) -> Verdict
     match record::class_of(kind) {
         record::Class::Expression => {
             if kind == LITERAL {
-                Verdict::Good
+                check_value(buffer::get_u32(s, 4), largest)
             } else {
                 check_variable(buffer::get_u32(s, 4), k)
             }
@@ -60,27 +60,27 @@ fn check_expression(s: &[u8], k: u32) -> Verdict
 }
 
 // A bound is a literal or a variable, the first two kinds of expressions.
-fn check_bound(s: &[u8], k: u32) -> Verdict
+fn check_bound(s: &[u8], k: u32, largest: u32) -> Verdict
     requires { ⌜ length (now s) ≡ 8 ⌝ }
-    ensures { λ r. ⌜ r ≡ verdict (boundInRange k) (only (readBound (now (s .entry)))) ⌝ }
+    ensures { λ r. ⌜ r ≡ verdict (boundRating k largest) (only (readBound (now (s .entry)))) ⌝ }
 {
     if VARIABLE < buffer::get_u16(s, 2) {
         return Verdict::Malformed;
     }
-    check_expression(s, k)
+    check_expression(s, k, largest)
 }
 
-fn check_assignment(s: &[u8], k: u32) -> Verdict
+fn check_assignment(s: &[u8], k: u32, largest: u32) -> Verdict
     requires { ⌜ Front (now s) (length (now s)) ⌝ }
     requires { ⌜ u16 (now s) 2 ≡ 2 ⌝ }
-    ensures { λ r. ⌜ r ≡ blockVerdict k (decodeBlock (now (s .entry))) ⌝ }
+    ensures { λ r. ⌜ r ≡ blockVerdict k largest (decodeBlock (now (s .entry))) ⌝ }
 {
     if s.len() != 16 {
         return Verdict::Malformed;
     }
     worst(
         check_variable(buffer::get_u32(s, 4), k),
-        check_expression(&s[8..16], k),
+        check_expression(&s[8..16], k, largest),
     )
 }
 
@@ -94,10 +94,10 @@ fn no_command(length: usize) -> Opened
     }
 }
 
-fn open_loop(s: &[u8], k: u32) -> Opened
+fn open_loop(s: &[u8], k: u32, largest: u32) -> Opened
     requires { ⌜ Front (now s) (length (now s)) ⌝ }
     requires { ⌜ u16 (now s) 2 ≡ 3 ⌝ }
-    ensures { λ r. ⌜ OpensCommand k (now (s .entry)) (r .verdict) (r .inner) ⌝ }
+    ensures { λ r. ⌜ OpensCommand k largest (now (s .entry)) (r .verdict) (r .inner) ⌝ }
 {
     if s.len() < 20 {
         return no_command(s.len());
@@ -105,7 +105,7 @@ fn open_loop(s: &[u8], k: u32) -> Opened
     if reader::only_at(s, 16, BLOCK) {
         let index = check_variable(buffer::get_u32(s, 4), k);
         Opened {
-            verdict: worst(index, check_bound(&s[8..16], k)),
+            verdict: worst(index, check_bound(&s[8..16], k, largest)),
             inner: 20,
         }
     } else {
@@ -114,9 +114,9 @@ fn open_loop(s: &[u8], k: u32) -> Opened
 }
 
 // The class decides, then the kind; a program's own is no command's. A head with nothing inside ends where the record ends.
-fn open_command(s: &[u8], k: u32) -> Opened
+fn open_command(s: &[u8], k: u32, largest: u32) -> Opened
     requires { ⌜ Front (now s) (length (now s)) ⌝ }
-    ensures { λ r. ⌜ OpensCommand k (now (s .entry)) (r .verdict) (r .inner) ⌝ }
+    ensures { λ r. ⌜ OpensCommand k largest (now (s .entry)) (r .verdict) (r .inner) ⌝ }
 {
     let kind = buffer::get_u16(s, 2);
     match record::class_of(kind) {
@@ -126,10 +126,10 @@ fn open_command(s: &[u8], k: u32) -> Opened
                 inner: 4,
             },
             ASSIGNMENT => Opened {
-                verdict: check_assignment(s, k),
+                verdict: check_assignment(s, k, largest),
                 inner: s.len(),
             },
-            LOOP => open_loop(s, k),
+            LOOP => open_loop(s, k, largest),
             _ => no_command(s.len()),
         },
         record::Class::Expression => no_command(s.len()),
@@ -140,8 +140,8 @@ fn open_command(s: &[u8], k: u32) -> Opened
 
 // The contents of a block's record: its commands in a row, from `at` up to `end` those that are left to check. A call for an
 // empty row would cost as much as a small command, so none is made here or in `check_command`.
-fn check_block(s: &[u8], k: u32) -> Verdict
-    ensures { λ r. ⌜ r ≡ blockVerdict k (decodeBlock (now (s .entry))) ⌝ }
+fn check_block(s: &[u8], k: u32, largest: u32) -> Verdict
+    ensures { λ r. ⌜ r ≡ blockVerdict k largest (decodeBlock (now (s .entry))) ⌝ }
 {
     let mut found = Verdict::Good;
     let mut at = 0;
@@ -153,11 +153,11 @@ fn check_block(s: &[u8], k: u32) -> Verdict
                 let whole = length <= end - next;
                 if !whole {
                     if next < end {
-                        found = worst(found, check_block(&s[next..end], k));
+                        found = worst(found, check_block(&s[next..end], k, largest));
                         end = next;
                     }
                 }
-                let opened = check_command(&s[at..next], k, whole);
+                let opened = check_command(&s[at..next], k, largest, whole);
                 let verdict = opened.verdict;
                 found = worst(found, verdict);
                 at += opened.inner;
@@ -171,17 +171,17 @@ fn check_block(s: &[u8], k: u32) -> Verdict
 
 // One command's record: its head is opened and judged here alone. Where the whole of it is asked for, the commands inside are
 // checked too, and none is left.
-fn check_command(s: &[u8], k: u32, whole: bool) -> Opened
+fn check_command(s: &[u8], k: u32, largest: u32, whole: bool) -> Opened
     requires { ⌜ Front (now s) (length (now s)) ⌝ }
-    ensures { λ r. ⌜ ChecksCommand k (now (s .entry)) whole (r .verdict) (r .inner) ⌝ }
+    ensures { λ r. ⌜ ChecksCommand k largest (now (s .entry)) whole (r .verdict) (r .inner) ⌝ }
 {
-    let opened = open_command(s, k);
+    let opened = open_command(s, k, largest);
     let head = opened.verdict;
     let inner = opened.inner;
     if whole {
         if inner < s.len() {
             return Opened {
-                verdict: worst(head, check_block(&s[inner..], k)),
+                verdict: worst(head, check_block(&s[inner..], k, largest)),
                 inner: s.len(),
             };
         }
@@ -190,17 +190,17 @@ fn check_command(s: &[u8], k: u32, whole: bool) -> Opened
 }
 
 // What stands behind a program's header: one block.
-fn check_contents(s: &[u8], start: usize, k: u32) -> Verdict
-    ensures { λ r. ⌜ r ≡ blockVerdict k (blockIn (drop start (now (s .entry)))) ⌝ }
+fn check_contents(s: &[u8], start: usize, k: u32, largest: u32) -> Verdict
+    ensures { λ r. ⌜ r ≡ blockVerdict k largest (blockIn (drop start (now (s .entry)))) ⌝ }
 {
     if reader::only_at(s, start, BLOCK) {
-        check_block(&s[start + 4..], k)
+        check_block(&s[start + 4..], k, largest)
     } else {
         Verdict::Malformed
     }
 }
 
-// Rows 2 to 5, of a buffer that row 1 lets through.
+// Rows 2 to 5 and 15, of a buffer that row 1 lets through.
 pub fn check_record(buf: &[u8], used: usize) -> Checked
     requires { ⌜ badBuffer (now buf) used ≡ false ⌝ }
     ensures { λ r. ⌜ asChecked r ≡ checkProgram (now (buf .entry)) used ⌝ }
@@ -211,7 +211,10 @@ pub fn check_record(buf: &[u8], used: usize) -> Checked
     }
     let h = record::read_header(buf);
     let start = h.contents_at();
-    answer(number_of(check_contents(&buf[..used], start, h.k)), h.k)
+    answer(
+        number_of(check_contents(&buf[..used], start, h.k, h.largest())),
+        h.k,
+    )
 }
 
 pub fn check_program(buf: &[u8], used: usize) -> Checked

@@ -1,4 +1,4 @@
--- The class of a kind by ranges: the kinds of a class's list stand in a row, but for a program's 7.
+-- The class of a kind by ranges: the kinds of a class's list stand in a row, but for a program's 7 and 9.
 use Prim.Native.Nat.{_+_, _<_, suc, zero, ℕ, _≤_}
 use mathlib.Core.Path.{refl, sym, _∙_, _≡_}
 use mathlib.Core.Bool.{Bool, false, true, _||_}
@@ -46,41 +46,45 @@ module _ (k : ℕ) where
   unfolding classOf classBy among programKinds
   class-seven e = rw e refl
 
-  command-kinds : (k ≡ 7 → ⊥) → among programKinds k ≡ among (run 1 3) k
+  pub class-nine : k ≡ 9 → classOf k ≡ Program
+  unfolding classOf classBy among programKinds
+  class-nine e = rw e refl
+
+  command-kinds : (k ≡ 7 → ⊥) → (k ≡ 9 → ⊥) → among programKinds k ≡ among (run 1 3) k
   unfolding among programKinds
-  command-kinds h = rw (ne-eqb k 7 h) refl
+  command-kinds h g = rw (ne-eqb k 7 h, ne-eqb k 9 g) refl
 
   expression-kinds : among expressionKinds k ≡ among (run 16 4) k
   unfolding expressionKinds
   expression-kinds = refl
 
-  term-kinds : among termKinds k ≡ among (run 32 9) k
+  term-kinds : among termKinds k ≡ among (run 32 10) k
   unfolding termKinds
   term-kinds = refl
 
   pub class-command : 1 ≤ k → k ≤ 3 → classOf k ≡ Program
   unfolding classOf classBy
-  class-command a b = rw (command-kinds (omega arith), run-has 1 3 a (omega arith)) refl
+  class-command a b = rw (command-kinds (omega arith) (omega arith), run-has 1 3 a (omega arith)) refl
 
   pub class-expression : 16 ≤ k → k ≤ 19 → classOf k ≡ Expression
   unfolding classOf classBy
-  class-expression a b = rw (command-kinds (omega arith), run-lacks 1 3 (λ x y. omega arith), expression-kinds, run-has 16 4 a (omega arith)) refl
+  class-expression a b = rw (command-kinds (omega arith) (omega arith), run-lacks 1 3 (λ x y. omega arith), expression-kinds, run-has 16 4 a (omega arith)) refl
 
-  pub class-term : 32 ≤ k → k ≤ 40 → classOf k ≡ Term
+  pub class-term : 32 ≤ k → k ≤ 41 → classOf k ≡ Term
   unfolding classOf classBy
   class-term a b =
-      rw (command-kinds (omega arith), run-lacks 1 3 (λ x y. omega arith), expression-kinds, run-lacks 16 4 (λ x y. omega arith), term-kinds, run-has 32 9 a (omega arith)) refl
+      rw (command-kinds (omega arith) (omega arith), run-lacks 1 3 (λ x y. omega arith), expression-kinds, run-lacks 16 4 (λ x y. omega arith), term-kinds, run-has 32 10 a (omega arith)) refl
 
-  pub class-malformed : (k ≡ 7 → ⊥) → (1 ≤ k → k ≤ 3 → ⊥) → (16 ≤ k → k ≤ 19 → ⊥) → (32 ≤ k → k ≤ 40 → ⊥) → classOf k ≡ Malformed
+  pub class-malformed : (k ≡ 7 → ⊥) → (k ≡ 9 → ⊥) → (1 ≤ k → k ≤ 3 → ⊥) → (16 ≤ k → k ≤ 19 → ⊥) → (32 ≤ k → k ≤ 41 → ⊥) → classOf k ≡ Malformed
   unfolding classOf classBy
-  class-malformed a b c d =
+  class-malformed a n b c d =
       rw (
-        command-kinds a,
+        command-kinds a n,
         run-lacks 1 3 (λ x y. b x (omega arith)),
         expression-kinds,
         run-lacks 16 4 (λ x y. c x (omega arith)),
         term-kinds,
-        run-lacks 32 9 (λ x y. d x (omega arith)),
+        run-lacks 32 10 (λ x y. d x (omega arith)),
       ) refl
 
   pub expression-range : classOf k ≡ Expression → (16 ≤ k) × (k ≤ 19)

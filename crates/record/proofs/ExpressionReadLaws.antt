@@ -8,6 +8,7 @@ use borrow.Author.Tests.{eqb-false, eqb-true}
 use lib.Dec.{eqb}
 use lib.ListN.{length}
 use native.Mathlib.Omega.{arith}
+use Rattle.rules.specs.Literals.{boundLiterals, exprLiterals}
 use Rattle.rules.specs.Scope.{boundInRange, exprInRange, inRange}
 use Rattle.rules.specs.Syntax.{Bound, Expr, dec, inc, lit, upto, uptoVar, var}
 use Rattle.rules.proofs.Tests.{true-false}
@@ -43,19 +44,20 @@ pub record Variable (o : Option Expr) (v : ℕ) : Type 0 where
   pub expr : Expr
   pub is : o ≡ some expr
   pub range : (k : ℕ) → exprInRange k expr ≡ inRange k v
+  pub none : exprLiterals expr ≡ []
 
 variable-kind : (k v : ℕ) → 17 ≤ k → k ≤ 19 → Variable (exprFrom k v) v
-unfolding exprFrom pick exprInRange
+unfolding exprFrom pick exprInRange exprLiterals
 variable-kind k v a b = go (eqb k 17) (eqb k 18) refl refl
   where
     go : (s t : Bool) → eqb k 17 ≡ s → eqb k 18 ≡ t → Variable (exprFrom k v) v
-    go true t p q = record { expr = var v; is = rw (eqb-true k 17 p) refl; range = λ n. refl }
-    go false true p q = record { expr = inc v; is = rw (eqb-true k 18 q) refl; range = λ n. refl }
+    go true t p q = record { expr = var v; is = rw (eqb-true k 17 p) refl; range = λ n. refl; none = refl }
+    go false true p q = record { expr = inc v; is = rw (eqb-true k 18 q) refl; range = λ n. refl; none = refl }
     go false false p q =
         let x = eqb-false k 17 p in
         let y = eqb-false k 18 q in
         let e : k ≡ 19 = omega arith in
-        record { expr = dec v; is = rw e refl; range = λ n. refl }
+        record { expr = dec v; is = rw e refl; range = λ n. refl; none = refl }
 
 -- A bound as an expression.
 abbrev pub boundExpr : Bound → Expr
@@ -70,6 +72,11 @@ pub boundExpr-range : (k : ℕ) (b : Bound) → exprInRange k (boundExpr b) ≡ 
 unfolding exprInRange boundInRange
 boundExpr-range k (upto v) = refl
 boundExpr-range k (uptoVar x) = refl
+
+pub boundExpr-literals : (b : Bound) → exprLiterals (boundExpr b) ≡ boundLiterals b
+unfolding exprLiterals boundLiterals
+boundExpr-literals (upto v) = refl
+boundExpr-literals (uptoVar x) = refl
 
 bound-kind : (k v : ℕ) → k ≤ 17 → exprFrom k v ≡ asExpr (boundFrom k v)
 unfolding exprFrom boundFrom pick

@@ -1,4 +1,4 @@
--- Rows 1 to 5 by what code reads: one law for each way out of a check.
+-- Rows 1 to 5 and 15 by what code reads: one law for each way out of a check.
 use Prim.Native.Nat.{_<_, ℕ, _≤_}
 use mathlib.Core.Path.{_≡_, ap, refl, sym, _∙_}
 use mathlib.Core.Logic.{inl, inr, _⊎_}
@@ -9,14 +9,16 @@ use borrow.Author.Tests.{ltb-false, ltb-true}
 use lib.Dec.{ltb}
 use lib.ListN.{take}
 use native.Mathlib.Omega.{arith}
+use Rattle.rules.specs.Literals.{literalsIn, numeralsIn, smallValues}
+use Rattle.rules.specs.Store.{upTo}
 use Rattle.rules.specs.Scope.{Within, blockInRange, termInRange}
 use Rattle.record.specs.Answers.{checkProgram, checkTerm, checkedBy}
 use Rattle.record.specs.Front.{u16}
 use Rattle.record.specs.declared.Header.{Header}
 use Rattle.record.specs.declared.Sort.{Sort}
-use Rattle.record.specs.Header.{blockIn, contentsAt, headerIn, kindField, kindOf, lengthField, program, term, termIn}
+use Rattle.record.specs.Header.{blockIn, contentsAt, headerIn, kindField, kindOf, largestOf, lengthField, okOf, program, term, termIn}
 use Rattle.record.specs.HeaderRows.{contentsRow, headerRow, rangeRow}
-use Rattle.record.specs.Rows.{NoRow, Row, badBlock, badBuffer, badHeader, badK, badTerm, blockOf, blockOutside, firstRow, headerOf, headerRows, holds, isNone, kOf, pickRow, row, termOf, termOutside}
+use Rattle.record.specs.Rows.{NoRow, Row, badBlock, badBuffer, badHeader, badK, badTerm, blockAbove, blockOf, blockOutside, firstRow, headerOf, headerRows, holds, isNone, kOf, pickRow, row, termAbove, termOf, termOutside}
 use Rattle.record.proofs.AnswerLaws.{checked-refused}
 use Rattle.record.proofs.BetweenLaws.{between}
 use Rattle.record.proofs.HeaderLaws.{contentsAt-low}
@@ -83,16 +85,19 @@ module _ (s : Sort) (buf : List ℕ) (used : ℕ) where
   pub header-room : headerRow s buf used ≡ 0 → contentsAt (headerIn buf) ≤ used
   header-room e = at-start buf used (header-start e)
 
--- ROWS 4 AND 5
+-- ROWS 4, 5 AND 15
 
-rows-contents : {A : Type 0} (p : A → Bool) (o : Option A) → firstRow (row 4 (isNone o) ∷ row 5 (holds (λ t. not (p t)) o) ∷ []) ≡ contentsRow p o
+rows-contents : {A : Type 0} (p q : A → Bool) (o : Option A)
+    → firstRow (row 4 (isNone o) ∷ row 5 (holds (λ t. not (p t)) o) ∷ row 15 (holds (λ t. not (q t)) o) ∷ []) ≡ contentsRow p q o
 unfolding firstRow pickRow isNone holds
-rows-contents p none = refl
-rows-contents p (some a) = go (p a)
+rows-contents p q none = refl
+rows-contents p q (some a) = go (p a) (q a)
   where
-    go : (b : Bool) → pickRow (not b) 5 0 ≡ rangeRow b
-    go true = refl
-    go false = refl
+    go : (b c : Bool) → pickRow (not b) 5 (pickRow (not c) 15 0) ≡ rangeRow b c
+    go true true = refl
+    go true false = refl
+    go false true = refl
+    go false false = refl
 
 -- THE CHECKS: row 1 decides, or the header, or what the record holds
 
@@ -125,20 +130,20 @@ module _ (buf : List ℕ) (used : ℕ) where
     unfolding checkProgram
     check-program-header h = rows-header buf used _ program fine (kOf buf used) h
 
-    pub check-program-contents : headerRow program buf used ≡ 0 → (h : Header) → h ≡ headerIn buf → (start : ℕ) → start ≡ contentsAt h
-        → checkProgram buf used ≡ checkedBy (contentsRow (blockInRange (h .k)) (blockIn (between buf start used))) (h .k)
-    unfolding checkProgram badBlock blockOutside
-    check-program-contents e h is start starts =
-        rw (rows-after buf used _ program fine e, rows-contents (blockInRange (kOf buf used)) (blockOf buf used), contents-at buf used, starts)
-        (ap (λ (x : Header). checkedBy (contentsRow (blockInRange (x .k)) (blockIn (between buf (contentsAt x) used))) (x .k)) (header-is program buf used e ∙ sym is))
+    pub check-program-contents : headerRow program buf used ≡ 0 → (h : Header) → h ≡ headerIn buf → (start : ℕ) → start ≡ contentsAt h → (largest : ℕ) → largest ≡ largestOf h
+        → checkProgram buf used ≡ checkedBy (contentsRow (blockInRange (h .k)) (λ t. smallValues (upTo largest) (literalsIn t)) (blockIn (between buf start used))) (h .k)
+    unfolding checkProgram badBlock blockOutside blockAbove
+    check-program-contents e h is start starts largest limits =
+        rw (rows-after buf used _ program fine e, rows-contents (blockInRange (kOf buf used)) (λ t. smallValues (okOf (headerOf buf used)) (literalsIn t)) (blockOf buf used), contents-at buf used, starts, limits)
+        (ap (λ (x : Header). checkedBy (contentsRow (blockInRange (x .k)) (λ t. smallValues (okOf x) (literalsIn t)) (blockIn (between buf (contentsAt x) used))) (x .k)) (header-is program buf used e ∙ sym is))
 
     pub check-term-header : (headerRow term buf used ≡ 0 → ⊥) → checkTerm buf used ≡ checkedBy (headerRow term buf used) 0
     unfolding checkTerm
     check-term-header h = rows-header buf used _ term fine (kOf buf used) h
 
-    pub check-term-contents : headerRow term buf used ≡ 0 → (h : Header) → h ≡ headerIn buf → (start : ℕ) → start ≡ contentsAt h
-        → checkTerm buf used ≡ checkedBy (contentsRow (termInRange (h .k)) (termIn (h .k) (between buf start used))) (h .k)
-    unfolding checkTerm badTerm termOutside
-    check-term-contents e h is start starts =
-        rw (rows-after buf used _ term fine e, rows-contents (termInRange (kOf buf used)) (termOf buf used), contents-at buf used, starts)
-        (ap (λ (x : Header). checkedBy (contentsRow (termInRange (x .k)) (termIn (x .k) (between buf (contentsAt x) used))) (x .k)) (header-is term buf used e ∙ sym is))
+    pub check-term-contents : headerRow term buf used ≡ 0 → (h : Header) → h ≡ headerIn buf → (start : ℕ) → start ≡ contentsAt h → (largest : ℕ) → largest ≡ largestOf h
+        → checkTerm buf used ≡ checkedBy (contentsRow (termInRange (h .k)) (λ t. smallValues (upTo largest) (numeralsIn t)) (termIn (h .k) (between buf start used))) (h .k)
+    unfolding checkTerm badTerm termOutside termAbove
+    check-term-contents e h is start starts largest limits =
+        rw (rows-after buf used _ term fine e, rows-contents (termInRange (kOf buf used)) (λ t. smallValues (okOf (headerOf buf used)) (numeralsIn t)) (termOf buf used), contents-at buf used, starts, limits)
+        (ap (λ (x : Header). checkedBy (contentsRow (termInRange (x .k)) (λ t. smallValues (okOf x) (numeralsIn t)) (termIn (x .k) (between buf (contentsAt x) used))) (x .k)) (header-is term buf used e ∙ sym is))

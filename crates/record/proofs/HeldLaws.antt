@@ -1,22 +1,29 @@
 -- Rows 1 to 3: what they say of a buffer, and of one that begins with a headed record.
-use Prim.Native.Nat.{_+_, ℕ, _≤_}
-use mathlib.Core.Path.{ap, refl, subst, sym, _∙_, _≡_}
+use Prim.Native.Nat.{_+_, _<_, ℕ, _≤_}
+use mathlib.Core.Path.{ap, ap₂, refl, subst, sym, _∙_, _≡_}
 use mathlib.Core.Bool.{Bool, false, not, true, _||_}
 use mathlib.Core.List.{List, _∷_}
 use borrow.Author.Tests.{eq-eqb, eqb-true, le-ltb, ltb-false, not-false}
-use lib.Dec.{eqb, ltb}
-use lib.ListN.{length, length-take, take}
+use lib.Dec.{eqb, lit<, ltb}
+use lib.ListN.{drop, length, length-take, take}
 use lib.Seq.{length-take-le, take-take}
 use native.Mathlib.Omega.{arith}
 use Rattle.buffer.specs.LittleEndian.{Bytes, val}
 use Rattle.buffer.specs.Slice as slice
+use Rattle.rules.specs.Literals.{smallValues}
 use Rattle.rules.specs.Scope.{inRange}
-use Rattle.buffer.proofs.LittleEndianLaws.{bytes-drop, bytes-take}
+use Rattle.rules.specs.Sound.{SmallValues}
+use Rattle.rules.specs.Store.{upTo}
+use Rattle.buffer.proofs.LittleEndianLaws.{bytes-drop, bytes-take, val-take}
+use Rattle.rules.proofs.LiteralsLaws.{small-smallValues, smallValues-small}
 use Rattle.rules.proofs.ScopeLaws.{inRange-within, within-inRange}
+use Rattle.rules.proofs.Tests.{true-false}
+use Rattle.record.specs.declared.Edition.{Edition}
+use Rattle.record.specs.declared.Edition.the-variants.{Second}
 use Rattle.record.specs.declared.Header.{Header}
 use Rattle.record.specs.declared.Sort.{Sort}
-use Rattle.record.specs.Header.{HeaderFits, contents, contentsAt, headed, headerIn, kField, kindField, kindOf, lengthField}
-use Rattle.record.specs.Rows.{NoRow, Row, badBuffer, badHeader, badK, badStore, headerOf, headerRows, kOf, row, tooLong}
+use Rattle.record.specs.Header.{HeaderFits, ceilingField, contents, contentsAt, editionBy, editionField, formOf, headed, headerIn, isSecond, kField, kindField, kindOf, largestOf, lengthField, okOf}
+use Rattle.record.specs.Rows.{NoRow, Row, badBuffer, badHeader, badK, badStore, headerOf, headerRows, kOf, row, tooLong, valuesAbove}
 use Rattle.record.proofs.HeaderLaws.{contents-headed, contentsAt-low, headed-fields, headerIn-headed, kindField-headed, length-headed, lengthField-headed}
 use Rattle.record.proofs.RowLaws.{not-intro, or-false, or-intro}
 use Rattle.record.specs.Front.{u16}
@@ -80,13 +87,43 @@ module _ (buf : List ℕ) (used : ℕ) where
   unfolding kField slice.part
   k-at eight = ap val (part-take buf used 4 4 (omega arith))
 
+  kind-same : 4 ≤ used → kindField (take used buf) ≡ kindField buf
+  unfolding kindField slice.part
+  kind-same four = ap val (part-take buf used 2 2 (omega arith))
+
+  ceiling-same : 12 ≤ used → ceilingField (take used buf) ≡ ceilingField buf
+  unfolding ceilingField slice.part
+  ceiling-same twelve = ap val (part-take buf used 8 4 (omega arith))
+
+  -- how long the header is, is known from the kind
+  length-same-edition : 8 ≤ used → contentsAt (headerOf buf used) ≡ contentsAt (headerIn buf)
+  unfolding contentsAt editionField editionBy formOf
+  length-same-edition eight = go (isSecond (kindField (take used buf))) (isSecond (kindField buf)) (ap isSecond (kind-same (omega arith)))
+    where
+      go : (a b : Bool) → a ≡ b → formOf (editionBy a (ceilingField (take used buf))) .headerLength ≡ formOf (editionBy b (ceilingField buf)) .headerLength
+      go true true e = refl
+      go true false e = true-false e
+      go false true e = true-false (sym e)
+      go false false e = refl
+
+  edition-at : contentsAt (headerOf buf used) ≤ used → editionField (take used buf) ≡ editionField buf
+  unfolding contentsAt editionField editionBy formOf
+  edition-at n =
+      ap (λ (kind : ℕ). editionBy (isSecond kind) (ceilingField (take used buf))) (kind-same (omega (arith, n, contentsAt-low (headerOf buf used))))
+      ∙ go (isSecond (kindField buf)) (ap isSecond (kind-same (omega (arith, n, contentsAt-low (headerOf buf used))))) n
+    where
+      go : (b : Bool) → isSecond (kindField (take used buf)) ≡ b → formOf (editionBy (isSecond (kindField (take used buf))) (ceilingField (take used buf))) .headerLength ≤ used
+          → editionBy b (ceilingField (take used buf)) ≡ editionBy b (ceilingField buf)
+      go true e m = ap Second (ceiling-same (subst (λ (x : Bool). formOf (editionBy x (ceilingField (take used buf))) .headerLength ≤ used) e m))
+      go false e m = refl
+
   pub header-at : contentsAt (headerOf buf used) ≤ used → headerOf buf used ≡ headerIn buf
-  header-at n = ap (λ k. record { k = k }) (k-at (omega (arith, n, contentsAt-low (headerOf buf used))))
+  header-at n =
+      ap₂ (λ (k : ℕ) (e : Edition). record { k = k; edition = e }) (k-at (omega (arith, n, contentsAt-low (headerOf buf used)))) (edition-at n)
 
   -- it is whole in the record exactly where it is whole in what is read
   pub start-at : contentsAt (headerIn buf) ≤ used → contentsAt (headerOf buf used) ≤ used
-  unfolding contentsAt
-  start-at n = n
+  start-at n = rw (length-same-edition (omega (arith, n, contentsAt-low (headerIn buf)))) n
 
   pub at-start : contentsAt (headerOf buf used) ≤ used → contentsAt (headerIn buf) ≤ used
   at-start n = subst (λ (x : Header). contentsAt x ≤ used) (header-at n) n
@@ -132,6 +169,25 @@ good-k buf used e = inRange-within 16 (kOf buf used) (not-false (inRange 16 (kOf
 pub k-good : (buf : List ℕ) (used : ℕ) → 1 ≤ kOf buf used → kOf buf used ≤ 16 → badK buf used ≡ false
 unfolding badK
 k-good buf used a b = not-intro (within-inRange 16 (kOf buf used) (a, b))
+
+-- ROW 16
+
+pub good-values : (buf : List ℕ) (used : ℕ) (values : List ℕ) → valuesAbove buf used values ≡ false → SmallValues (okOf (headerOf buf used)) values
+unfolding valuesAbove
+good-values buf used values e =
+    let ok = okOf (headerOf buf used) in
+    smallValues-small ok values (not-false (smallValues ok values) e)
+
+pub values-good : (buf : List ℕ) (used : ℕ) (values : List ℕ) → SmallValues (okOf (headerOf buf used)) values → valuesAbove buf used values ≡ false
+unfolding valuesAbove
+values-good buf used values h = not-intro (small-smallValues (okOf (headerOf buf used)) values h)
+
+-- as code finds it, by the largest value of the header that it has read
+pub values-read : (buf : List ℕ) (used : ℕ) (h : Header) → headerOf buf used ≡ h → (largest : ℕ) → largest ≡ largestOf h → (values : List ℕ) (above : Bool)
+    → above ≡ not (smallValues (upTo largest) values) → valuesAbove buf used values ≡ above
+unfolding valuesAbove
+values-read buf used h is largest limits values above tells =
+    ap (λ (x : Header). not (smallValues (okOf x) values)) is ∙ ap (λ (n : ℕ). not (smallValues (upTo n) values)) (sym limits) ∙ sym tells
 
 -- ROW 6
 
@@ -204,10 +260,19 @@ header-whole s buf used hb b h =
     headed-fields s (take used buf) (bytes-take used buf hb) (rw l (h .start)) (h .is-kind) (h .is-length ∙ sym l)
 
 -- what rows 2 and 3 let through
+ceiling-word : (r : List ℕ) → Bytes r → ceilingField r < 4294967296
+unfolding ceilingField
+ceiling-word r h = val-take 4 (drop 8 r) (bytes-drop 8 r h)
+
 pub header-fits : (s : Sort) (buf : List ℕ) (used : ℕ) → Bytes buf → Buffer buf used → GoodHeader s buf used → badK buf used ≡ false → HeaderFits (headerOf buf used)
+unfolding largestOf editionField editionBy formOf
 header-fits s buf used hb b h e =
     let g = good-k buf used e in
-    record { k-low = g .0; k-high = g .1 }
+    record { k-low = g .0; k-high = g .1; largest-word = go (isSecond (kindField (take used buf))) (ceiling-word (take used buf) (bytes-take used buf hb)) }
+  where
+    go : (b : Bool) → ceilingField (take used buf) < 4294967296 → formOf (editionBy b (ceilingField (take used buf))) .largest < 4294967296
+    go true w = w
+    go false w = lit< tt
 
 pub bytes-contents : (used : ℕ) (buf : List ℕ) → Bytes buf → Bytes (contents (take used buf))
 unfolding contents

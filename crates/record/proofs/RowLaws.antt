@@ -5,6 +5,8 @@ use mathlib.Core.Logic.{inl, inr, _⊎_}
 use mathlib.Core.Bool.{_&&_, Bool, false, not, true, _||_}
 use mathlib.Core.List.{_++_, List, [], _∷_}
 use mathlib.Core.Option.{Option, none, some}
+use borrow.Author.Tests.{eq-eqb}
+use lib.Dec.{eqb}
 use Rattle.rules.proofs.Tests.{and-both, true-false}
 use Rattle.record.specs.Table.{inTable}
 use Rattle.record.specs.Rows.{First, NoRow, Row, firstRow, holds, isNone, orElse, pickRow, row}
@@ -44,6 +46,10 @@ pub none-split : (rs more : List Row) → NoRow (rs ++ more) → NoRow rs × NoR
 none-split [] more h = (tt, h)
 none-split (r ∷ rs) more h = let q = none-split rs more (h .1) in ((h .0, q .0), q .1)
 
+pub none-both : (rs more : List Row) → NoRow rs → NoRow more → NoRow (rs ++ more)
+none-both [] more h g = g
+none-both (r ∷ rs) more h g = (h .0, none-both rs more (h .1) g)
+
 pub none-first : (rs : List Row) → NoRow rs → firstRow rs ≡ 0
 unfolding firstRow
 none-first [] h = refl
@@ -68,6 +74,24 @@ first-zero (r ∷ rs) n h (inr v) e = (v .0, first-zero rs n (and-both (inTable 
 
 pub first-none : (rs : List Row) → numbered rs ≡ true → firstRow rs ≡ 0 → NoRow rs
 first-none rs h e = first-zero rs (firstRow rs) h (first-first rs) e
+
+-- A number that no row of a list has.
+abbrev pub without : ℕ → List Row → Bool
+without n [] = true
+without n (r ∷ rs) = not (eqb n (r .number)) && without n rs
+
+-- where such a number is the first, no row of the list applies, and the rows behind give it
+pub first-past : (rs more : List Row) (n : ℕ) → without n rs ≡ true → firstRow (rs ++ more) ≡ n → NoRow rs × (firstRow more ≡ n)
+unfolding firstRow pickRow
+first-past [] more n h e = (tt, e)
+first-past (r ∷ rs) more n h e =
+    let p = and-both (not (eqb n (r .number))) (without n rs) h in
+    go (r .applies) refl (p .0) (first-past rs more n (p .1)) e
+  where
+    go : (b : Bool) → r .applies ≡ b → not (eqb n (r .number)) ≡ true → (firstRow (rs ++ more) ≡ n → NoRow rs × (firstRow more ≡ n))
+        → pickRow b (r .number) (firstRow (rs ++ more)) ≡ n → NoRow (r ∷ rs) × (firstRow more ≡ n)
+    go true q m ih f = true-false (sym m ∙ ap not (eq-eqb n (r .number) (sym f)))
+    go false q m ih f = let i = ih f in ((q, i .0), i .1)
 
 -- the number of the first row that applies stands in the table
 first-of : (rs : List Row) (n : ℕ) → numbered rs ≡ true → First rs n → (n ≡ 0) ⊎ (inTable n ≡ true)

@@ -1,26 +1,31 @@
 -- What each row's test says, proved.
 use Prim.Native.Nat.{_<_, ℕ, _≤_}
 use mathlib.Core.Path.{_≡_, ap, refl, sym, _∙_, _≡_}
-use mathlib.Core.Logic.{inl, inr, _↔_, _⊎_}
+use mathlib.Core.Logic.{Iff·trans, inl, inr, _↔_, _⊎_}
 use mathlib.Core.Bool.{Bool, false, not, true, _||_}
 use mathlib.Core.List.{List}
 use mathlib.Core.Option.{Option, none, some}
 use borrow.Author.Tests.{eq-eqb, eqb-true, lt-ltb, ltb-true, not-true}
 use lib.Dec.{eqb, ltb}
-use lib.ListN.{length, length-drop, length-take, take}
+use lib.ListN.{drop, length, length-drop, length-take, take}
 use native.Mathlib.Omega.{arith}
+use Rattle.buffer.specs.LittleEndian.{val}
 use Rattle.rules.specs.FreeVariables.{closed}
+use Rattle.rules.specs.Literals.{literalsIn, numeralsIn, smallValues}
 use Rattle.rules.specs.Scope.{blockInRange, inRange, termInRange}
 use Rattle.rules.specs.Syntax.{Atom, Term, letAll, letOne, rec, tuple}
 use Rattle.rules.proofs.FreeVariablesLaws.{closed-free, free-closed}
+use Rattle.rules.proofs.LiteralsLaws.{above-iff}
 use Rattle.rules.proofs.ScopeLaws.{blockInRange-within, inRange-within, termInRange-within, within-blockInRange, within-inRange, within-termInRange}
 use Rattle.rules.proofs.Tests.{true-false}
+use Rattle.record.specs.declared.Edition.the-variants.{First, Second}
+use Rattle.record.specs.declared.Header.{Header}
 use Rattle.record.specs.declared.Sort.{Sort}
-use Rattle.record.specs.Header.{blockBytes, blockIn, contents, contentsAt, kindField, kindOf, lengthField, program, term, termIn}
+use Rattle.record.specs.Header.{blockBytes, blockIn, ceilingField, contents, contentsAt, editionBy, editionField, formOf, isSecond, kField, kindField, kindOf, largestOf, lengthField, okOf, program, term, termIn}
 use Rattle.record.specs.Program.{BlockWords}
-use Rattle.record.specs.RowMeaning.{RowsMean}
-use Rattle.record.specs.Rows.{badBlock, badBuffer, badHeader, badK, badStore, badTerm, blockOf, blockOutside, finishedTerm, headerOf, isNone, kOf, openTerm, termOf, termOutside, tooLong, unfinished}
-use Rattle.record.specs.Term.{TermWords, encodeTermRecord}
+use Rattle.record.specs.RowMeaning.{BadHeader, RowsMean}
+use Rattle.record.specs.Rows.{badBlock, badBuffer, badHeader, badK, badStore, badTerm, blockAbove, blockOf, blockOutside, finishedTerm, headerOf, isNone, kOf, openTerm, termAbove, termOf, termOutside, tooLong, unfinished, valuesAbove}
+use Rattle.record.specs.Term.{TermWords, encodeTermRecord, same}
 use Rattle.record.proofs.HeaderLaws.{blockIn-bytes, blockIn-sound, length-blockBytes, length-encodeTermRecord, termIn-bytes, termIn-sound}
 use Rattle.record.proofs.HeldLaws.{bytes-contents}
 use Rattle.record.proofs.RowLaws.{holds-some}
@@ -87,12 +92,98 @@ header-bad s buf used =
     or-iff (ltb used start) (not is-kind || not is-length) (ltb-iff used start)
     (or-iff (not is-kind) (not is-length) (not-iff is-kind (eqb-iff (kindField (take used buf)) kind)) (not-iff is-length (eqb-iff (lengthField (take used buf)) used)))
 
+-- in plain numbers: a kind of edition 2 is not the first's and has a header of 12 bytes; another is not the second's, and has one of 8
+module _ (first second used : ℕ) (r : List ℕ) (start kind : ℕ) where
+  abbrev BadFields : Type 0
+  BadFields = (used < start) ⊎ ((kindField r ≡ kind → ⊥) ⊎ (lengthField r ≡ used → ⊥))
+
+  module _ (long : start ≡ 12) (is : kind ≡ second) (other : kindField r ≡ first → ⊥) where
+    cut-second : Dec (kindField r ≡ second) → used < 12 → BadHeader first second used r
+    cut-second (yes e) h = inr (inl (e, h))
+    cut-second (no n) h = inr (inr (inl (other, n)))
+
+    to-second : BadFields → BadHeader first second used r
+    to-second (inl h) = cut-second (same (kindField r) second) (omega arith)
+    to-second (inr (inl h)) = inr (inr (inl (other, (λ e. h (e ∙ sym is)))))
+    to-second (inr (inr h)) = inr (inr (inr h))
+
+    from-second : BadHeader first second used r → BadFields
+    from-second (inl h) = inl (omega arith)
+    from-second (inr (inl v)) = inl (omega (arith, v .1))
+    from-second (inr (inr (inl v))) = inr (inl (λ e. v .1 (e ∙ is)))
+    from-second (inr (inr (inr h))) = inr (inr h)
+
+  module _ (long : start ≡ 8) (is : kind ≡ first) (other : kindField r ≡ second → ⊥) where
+    to-first : BadFields → BadHeader first second used r
+    to-first (inl h) = inl (omega arith)
+    to-first (inr (inl h)) = inr (inr (inl ((λ e. h (e ∙ sym is)), other)))
+    to-first (inr (inr h)) = inr (inr (inr h))
+
+    from-first : BadHeader first second used r → BadFields
+    from-first (inl h) = inl (omega arith)
+    from-first (inr (inl v)) = absurd (other (v .0))
+    from-first (inr (inr (inl v))) = inr (inl (λ e. v .0 (e ∙ is)))
+    from-first (inr (inr (inr h))) = inr (inr h)
+
+-- the kinds of edition 2
+second-iff : (kind : ℕ) → (isSecond kind ≡ true) ↔ ((kind ≡ 9) ⊎ (kind ≡ 41))
+unfolding isSecond
+second-iff kind = or-iff (eqb kind 9) (eqb kind 41) (eqb-iff kind 9) (eqb-iff kind 41)
+
+-- row 2 of a sort, whose kinds in the two editions are told apart
+module _ (s : Sort) (first second : ℕ) (of-first : (k : ℕ) → kindOf s (record { k = k; edition = First }) ≡ first)
+    (of-second : (k c : ℕ) → kindOf s (record { k = k; edition = Second c }) ≡ second) (not-second : isSecond first ≡ false) (is-second : isSecond second ≡ true)
+    (buf : List ℕ) (used : ℕ) where
+  abbrev r : List ℕ
+  r = take used buf
+
+  -- the header, by whether its kind is one of edition 2
+  abbrev by : Bool → Header
+  by b = record { k = kField r; edition = editionBy b (ceilingField r) }
+
+  plain : (b : Bool) → isSecond (kindField r) ≡ b
+      → ((used < contentsAt (by b)) ⊎ ((kindField r ≡ kindOf s (by b) → ⊥) ⊎ (lengthField r ≡ used → ⊥))) ↔ BadHeader first second used r
+  unfolding editionBy contentsAt formOf
+  plain true e =
+      let other : kindField r ≡ first → ⊥ = λ q. true-false (sym e ∙ ap isSecond q ∙ not-second) in
+      let is = of-second (kField r) (ceilingField r) in
+      (to-second first second used r 12 (kindOf s (by true)) refl is other, from-second first second used r 12 (kindOf s (by true)) refl is other)
+  plain false e =
+      let other : kindField r ≡ second → ⊥ = λ q. true-false (sym (ap isSecond q ∙ is-second) ∙ e) in
+      let is = of-first (kField r) in
+      (to-first first second used r 8 (kindOf s (by false)) refl is other, from-first first second used r 8 (kindOf s (by false)) refl is other)
+
+  header-two : (badHeader s buf used ≡ true) ↔ BadHeader first second used r
+  unfolding editionField
+  header-two = Iff·trans (header-bad s buf used) (plain (isSecond (kindField r)) refl)
+
+-- the ceiling that a header has
+module _ (buf : List ℕ) (used : ℕ) where
+  abbrev theKind : ℕ
+  theKind = kindField (take used buf)
+
+  has-ceiling : (theKind ≡ 9) ⊎ (theKind ≡ 41) → largestOf (headerOf buf used) ≡ val (take 4 (drop 8 (take used buf)))
+  unfolding largestOf editionField editionBy formOf ceilingField
+  has-ceiling h = rw (second-iff theKind .1 h) refl
+
+  no-ceiling : (theKind ≡ 9 → ⊥) → (theKind ≡ 41 → ⊥) → largestOf (headerOf buf used) ≡ 4294967295
+  unfolding largestOf editionField editionBy formOf
+  no-ceiling a b = go (isSecond theKind) refl
+    where
+      neither : (theKind ≡ 9) ⊎ (theKind ≡ 41) → ⊥
+      neither (inl e) = a e
+      neither (inr e) = b e
+
+      go : (s : Bool) → isSecond theKind ≡ s → formOf (editionBy s (ceilingField (take used buf))) .largest ≡ 4294967295
+      go true e = absurd (neither (second-iff theKind .0 e))
+      go false e = refl
+
 pub rows-mean : RowsMean
-unfolding badBuffer tooLong contentsAt kindOf badK badBlock badTerm blockOutside termOutside badStore openTerm unfinished
+unfolding badBuffer tooLong kindOf formOf isSecond badK badBlock badTerm blockOutside termOutside badStore openTerm unfinished blockAbove termAbove valuesAbove
 rows-mean = record {
   one = λ buf used. or-iff (ltb 16384 (length buf)) (ltb (length buf) used) (ltb-iff 16384 (length buf)) (ltb-iff (length buf) used);
-  two = header-bad program;
-  twoTerm = header-bad term;
+  two = header-two program 7 9 (λ k. refl) (λ k c. refl) refl refl;
+  twoTerm = header-two term 40 41 (λ k. refl) (λ k c. refl) refl refl;
   three = λ buf used. not-iff (inRange 16 (kOf buf used)) (inRange-within 16 (kOf buf used), within-inRange 16 (kOf buf used));
   four = λ buf used hb l. curry-iff (none-iff {Q = λ P. BlockWords P × (contents (take used buf) ≡ blockBytes P)} (blockOf buf used)
       (λ P e. let s = blockIn-sound (contents (take used buf)) P (bytes-contents used buf hb) e in (s .1, s .0))
@@ -108,4 +199,11 @@ rows-mean = record {
   seven = λ buf used t e. rw (holds-some (λ u. not (closed u)) (termOf buf used) t e)
       ((λ h. closed-free t (not-true (closed t) h)), (λ f. ap not (free-closed t (f .0) (f .1))));
   eight = λ buf used t e. rw (holds-some (λ u. not (finishedTerm u)) (termOf buf used) t e) (not-iff (finishedTerm t) (finished-iff t));
+  fifteen = λ buf used P e. rw (holds-some (λ t. not (smallValues (okOf (headerOf buf used)) (literalsIn t))) (blockOf buf used) P e)
+      (above-iff (largestOf (headerOf buf used)) (literalsIn P));
+  fifteenTerm = λ buf used t e. rw (holds-some (λ u. not (smallValues (okOf (headerOf buf used)) (numeralsIn u))) (termOf buf used) t e)
+      (above-iff (largestOf (headerOf buf used)) (numeralsIn t));
+  sixteen = λ buf used values. above-iff (largestOf (headerOf buf used)) values;
+  ceiling = has-ceiling;
+  noCeiling = no-ceiling;
 }

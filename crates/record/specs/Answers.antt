@@ -4,7 +4,7 @@ use mathlib.Core.Bool.{Bool}
 use mathlib.Core.List.{_++_, List, [], _∷_}
 use lib.Dec.{ltb}
 use lib.ListN.{length, replicate}
-use Rattle.record.specs.Rows.{Row, badBuffer, firstRow, kOf, programRows, row, termRows}
+use Rattle.record.specs.Rows.{Row, badBuffer, firstRow, kOf, limitedProgramRows, limitedTermRows, row}
 
 -- A record of bytes in a buffer of n bytes: what stands behind it is zero.
 unfoldable pub padded : ℕ → List ℕ → List ℕ
@@ -22,13 +22,13 @@ unfoldable pub checkedBy : ℕ → ℕ → Checked
 checkedBy zero k = record { number = 0; k = k }
 checkedBy (suc n) k = record { number = suc n; k = 0 }
 
--- The rows that the check of a program tests, 1 to 5.
+-- The rows that the check of a program tests: 1 to 5, and 15.
 abbrev pub checkProgramRows : List ℕ → ℕ → List Row
-checkProgramRows buf used = row 1 (badBuffer buf used) ∷ programRows buf used []
+checkProgramRows buf used = row 1 (badBuffer buf used) ∷ limitedProgramRows buf used []
 
 -- The same of a term.
 abbrev pub checkTermRows : List ℕ → ℕ → List Row
-checkTermRows buf used = row 1 (badBuffer buf used) ∷ termRows buf used []
+checkTermRows buf used = row 1 (badBuffer buf used) ∷ limitedTermRows buf used []
 
 -- The check of a program, by the first of its rows that applies.
 unfoldable pub checkProgram : List ℕ → ℕ → Checked

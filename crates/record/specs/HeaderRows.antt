@@ -1,4 +1,4 @@
--- Rows 2 and 3 and rows 4 and 5 each as one number: the checks look at a record's header, and then at what it holds.
+-- Rows 2 and 3 and rows 4, 5 and 15 each as one number: the checks look at a record's header, and then at what it holds.
 use Prim.Native.Nat.{ℕ}
 use mathlib.Core.Bool.{Bool, false, true}
 use mathlib.Core.List.{List, []}
@@ -10,12 +10,13 @@ use Rattle.record.specs.Rows.{firstRow, headerRows}
 unfoldable pub headerRow : Sort → List ℕ → ℕ → ℕ
 headerRow s buf used = firstRow (headerRows s buf used [])
 
--- By the test of variable numbers alone: row 5 where it fails, and none where it holds.
-abbrev pub rangeRow : Bool → ℕ
-rangeRow true = 0
-rangeRow false = 5
+-- By the tests of variable numbers and of literals or numerals: row 5 where the first fails, or else row 15 where the second does.
+abbrev pub rangeRow : Bool → Bool → ℕ
+rangeRow false small = 5
+rangeRow true false = 15
+rangeRow true true = 0
 
--- The number of the first of rows 4 and 5 that applies: row 4 where nothing could be read of the contents, or else by the test.
-abbrev pub contentsRow : {A : Type 0} → (A → Bool) → Option A → ℕ
-contentsRow inRange none = 4
-contentsRow inRange (some a) = rangeRow (inRange a)
+-- The number of the first of rows 4, 5 and 15 that applies: row 4 where nothing could be read of the contents, or else by the tests.
+abbrev pub contentsRow : {A : Type 0} → (A → Bool) → (A → Bool) → Option A → ℕ
+contentsRow inRange small none = 4
+contentsRow inRange small (some a) = rangeRow (inRange a) (small a)

@@ -9,11 +9,12 @@ use mathlib.Core.Option.{Option, none, some}
 use lib.Dec.{eqb, ltb}
 use lib.ListN.{length, take}
 use Rattle.rules.specs.FreeVariables.{closed}
+use Rattle.rules.specs.Literals.{literalsIn, numeralsIn, smallValues}
 use Rattle.rules.specs.Scope.{blockInRange, inRange, termInRange}
 use Rattle.rules.specs.Syntax.{Block, Term, empty, letAll, letOne, rec, tuple}
 use Rattle.record.specs.declared.Header.{Header}
 use Rattle.record.specs.declared.Sort.{Sort}
-use Rattle.record.specs.Header.{blockIn, contents, contentsAt, headerIn, kField, kindField, kindOf, lengthField, program, term, termIn}
+use Rattle.record.specs.Header.{blockIn, contents, contentsAt, headerIn, kField, kindField, kindOf, lengthField, okOf, program, term, termIn}
 
 -- A LIST OF ROWS
 
@@ -101,7 +102,7 @@ tooLong buf = ltb 16384 (length buf)
 unfoldable pub badBuffer : List ℕ → ℕ → Bool
 badBuffer buf used = tooLong buf || ltb (length buf) used
 
--- 2: under 8 bytes used, which is the header, or wrong kind, or length not the used length
+-- 2: no whole header used, which is 8 bytes and in edition 2 12, or wrong kind, or length not the used length
 unfoldable pub badHeader : Sort → List ℕ → ℕ → Bool
 badHeader s buf used =
     ltb used (contentsAt (headerOf buf used))
@@ -127,9 +128,21 @@ blockOutside buf used = holds (λ t. not (blockInRange (kOf buf used) t)) (block
 unfoldable pub termOutside : List ℕ → ℕ → Bool
 termOutside buf used = holds (λ t. not (termInRange (kOf buf used) t)) (termOf buf used)
 
+-- 15: a literal above the ceiling
+unfoldable pub blockAbove : List ℕ → ℕ → Bool
+blockAbove buf used = holds (λ t. not (smallValues (okOf (headerOf buf used)) (literalsIn t))) (blockOf buf used)
+
+-- The same of a term: a numeral.
+unfoldable pub termAbove : List ℕ → ℕ → Bool
+termAbove buf used = holds (λ t. not (smallValues (okOf (headerOf buf used)) (numeralsIn t))) (termOf buf used)
+
 -- 6: not k values
 unfoldable pub badStore : List ℕ → ℕ → List ℕ → Bool
 badStore buf used store = not (eqb (length store) (kOf buf used))
+
+-- 16: a value above the ceiling, of those that are read
+unfoldable pub valuesAbove : List ℕ → ℕ → List ℕ → Bool
+valuesAbove buf used values = not (smallValues (okOf (headerOf buf used)) values)
 
 -- 7: a free variable
 unfoldable pub openTerm : List ℕ → ℕ → Bool
@@ -159,3 +172,15 @@ programRows buf used more = headerRows program buf used (row 4 (badBlock buf use
 -- The same of a term.
 abbrev pub termRows : List ℕ → ℕ → List Row → List Row
 termRows buf used more = headerRows term buf used (row 4 (badTerm buf used) ∷ row 5 (termOutside buf used) ∷ more)
+
+-- Rows 6 and 16 of a store that is read, and then more.
+abbrev pub storeRows : List ℕ → ℕ → List ℕ → List Row → List Row
+storeRows buf used store more = row 6 (badStore buf used store) ∷ row 16 (valuesAbove buf used store) ∷ more
+
+-- Rows 2 to 5 and 15 of a program, and then more. (Of the counting stepper's calls row 12 comes between.)
+abbrev pub limitedProgramRows : List ℕ → ℕ → List Row → List Row
+limitedProgramRows buf used more = programRows buf used (row 15 (blockAbove buf used) ∷ more)
+
+-- The same of a term.
+abbrev pub limitedTermRows : List ℕ → ℕ → List Row → List Row
+limitedTermRows buf used more = termRows buf used (row 15 (termAbove buf used) ∷ more)

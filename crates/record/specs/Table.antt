@@ -19,6 +19,7 @@ pub data Place : Type 0 where
   translator : Place
   writingOut : Place
   batch : Place
+  readStore : Place
 
 -- A row of the table: the places that it names, and its number.
 pub record Entry : Type 0 where
@@ -29,7 +30,8 @@ pub record Entry : Type 0 where
 abbrev pub entry : List Place → ℕ → Entry
 entry ps n = record { places = ps; number = n }
 
--- THE TABLE. Row 11 is C-11's; 12 and 13 are C-14's, of the counting stepper and of the writing out alone; 14 is C-16's.
+-- THE TABLE. Row 11 is C-11's; 12 and 13 are C-14's, of the counting stepper and of the writing out alone; 14 is C-16's; 15 and 16 are
+-- C-17's: a record's literals or numerals, and a store that is read, with what a state holds.
 abbrev pub table : List Entry
 table =
     entry (buffers ∷ []) 1
@@ -39,9 +41,11 @@ table =
     ∷ entry (records ∷ []) 4
     ∷ entry (records ∷ []) 5
     ∷ entry (counting ∷ []) 12
+    ∷ entry (records ∷ []) 15
     ∷ entry (store ∷ []) 6
-    ∷ entry (counting ∷ []) 13
     ∷ entry (weighing ∷ []) 11
+    ∷ entry (counting ∷ []) 13
+    ∷ entry (readStore ∷ []) 16
     ∷ entry (reducer ∷ result ∷ []) 7
     ∷ entry (result ∷ []) 8
     ∷ entry (readBack ∷ []) 9
@@ -73,6 +77,7 @@ placeNumber readBack = 8
 placeNumber translator = 9
 placeNumber writingOut = 10
 placeNumber batch = 11
+placeNumber readStore = 12
 
 -- The two places are the same.
 abbrev pub samePlace : Place → Place → Bool

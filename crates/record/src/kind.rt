@@ -1,7 +1,10 @@
-// The kinds of records, in the order of 01's table. The comment has 01's word.
+// The kinds of records, in the order of 01's table, with those of 02 C-17. The comment has 01's word.
 
 // Tariff.
 pub const PROGRAM: usize = 7;
+
+// Tariff with a ceiling (edition 2).
+pub const SECOND_PROGRAM: usize = 9;
 
 // Block.
 pub const BLOCK: usize = 1;
@@ -26,6 +29,9 @@ pub const MINUS_ONE: usize = 19;
 
 // Term header.
 pub const TERM: usize = 40;
+
+// Term header with a ceiling (edition 2).
+pub const SECOND_TERM: usize = 41;
 
 // Numeral.
 pub const NUMERAL: usize = 32;

@@ -5,7 +5,7 @@ ghost use Prim.Native.Nat.{_≤_};
 ghost use lib.ListN.{length};
 ghost use Rattle.buffer.specs.Slice.{put};
 ghost use Rattle.record.specs.Class.{classOf};
-ghost use Rattle.record.specs.Header.{contentsAt, fieldsOf, headerIn, kindOf, largestOf};
+ghost use Rattle.record.specs.Header.{contentsAt, fieldsOf, headerIn, isSecond, kindOf, largestOf};
 
 pub mod kind;
 pub mod limit;
@@ -17,35 +17,60 @@ pub enum Sort {
     Term,
 }
 
+// The editions of a record with a header: the first has no ceiling, the second its own.
+pub enum Edition {
+    First,
+    Second(u32),
+}
+
 // What a header says behind its length and its kind.
 pub struct Header {
     pub k: u32,
+    pub edition: Edition,
 }
 
 // Length, kind and k.
-const HEADER_LENGTH: usize = 8;
+const FIRST_LENGTH: usize = 8;
+
+// The same, and the ceiling.
+const SECOND_LENGTH: usize = 12;
 
 impl Header {
     // Where the contents start.
     pub fn contents_at(self) -> usize
         ensures { λ r. ⌜ r ≡ contentsAt self ⌝ }
     {
-        HEADER_LENGTH
+        let edition = self.edition;
+        match edition {
+            Edition::First => FIRST_LENGTH,
+            Edition::Second(_) => SECOND_LENGTH,
+        }
     }
 
     // The largest value that is not too large.
     pub fn largest(self) -> u32
         ensures { λ r. ⌜ r ≡ largestOf self ⌝ }
     {
-        4294967295
+        let edition = self.edition;
+        match edition {
+            Edition::First => 4294967295,
+            Edition::Second(ceiling) => ceiling,
+        }
     }
 
     pub fn kind_of(self, sort: Sort) -> usize
         ensures { λ r. ⌜ r ≡ kindOf sort self ⌝ }
     {
-        match sort {
-            Sort::Program => kind::PROGRAM,
-            Sort::Term => kind::TERM,
+        let edition = self.edition;
+        match edition {
+            Edition::First => match sort {
+                Sort::Program => kind::PROGRAM,
+                Sort::Term => kind::TERM,
+            },
+            Edition::Second(_) => match sort {
+                Sort::Program => kind::SECOND_PROGRAM,
+                Sort::Term => kind::SECOND_TERM,
+            },
         }
     }
 
@@ -55,7 +80,21 @@ impl Header {
         ensures { λ _. ⌜ now (out .exit) ≡ put (now (out .entry)) 4 (fieldsOf self) ⌝ }
     {
         buffer::put_u32(out, 4, self.k);
+        let edition = self.edition;
+        match edition {
+            Edition::First => {}
+            Edition::Second(ceiling) => buffer::put_u32(out, FIRST_LENGTH, ceiling),
+        }
     }
+}
+
+fn is_second(kind: usize) -> bool
+    ensures { λ r. ⌜ r ≡ isSecond kind ⌝ }
+{
+    if kind == kind::SECOND_PROGRAM {
+        return true;
+    }
+    kind == kind::SECOND_TERM
 }
 
 // Where the contents start of the record that stands first: known before its header is.
@@ -63,7 +102,10 @@ pub fn start_of(buf: &[u8]) -> usize
     requires { ⌜ 4 ≤ length (now buf) ⌝ }
     ensures { λ r. ⌜ r ≡ contentsAt (headerIn (now (buf .entry))) ⌝ }
 {
-    HEADER_LENGTH
+    if is_second(buffer::get_u16(buf, 2)) {
+        return SECOND_LENGTH;
+    }
+    FIRST_LENGTH
 }
 
 // The header of the record that stands first.
@@ -71,8 +113,16 @@ pub fn read_header(buf: &[u8]) -> Header
     requires { ⌜ contentsAt (headerIn (now buf)) ≤ length (now buf) ⌝ }
     ensures { λ r. ⌜ r ≡ headerIn (now (buf .entry)) ⌝ }
 {
+    let k = buffer::get_u32(buf, 4);
+    if is_second(buffer::get_u16(buf, 2)) {
+        return Header {
+            k: k,
+            edition: Edition::Second(buffer::get_u32(buf, FIRST_LENGTH)),
+        };
+    }
     Header {
-        k: buffer::get_u32(buf, 4),
+        k: k,
+        edition: Edition::First,
     }
 }
 
@@ -91,8 +141,9 @@ pub fn class_of(kind: usize) -> Class
     match kind {
         4..=6 => Class::Malformed,
         1..=7 => Class::Program,
+        9 => Class::Program,
         16..=19 => Class::Expression,
-        32..=40 => Class::Term,
+        32..=41 => Class::Term,
         _ => Class::Malformed,
     }
 }

@@ -22,14 +22,20 @@ pub const BAD_VARIABLE: u32 = 5;
 // Blocks and loops nested over 32 deep (02 C-14).
 pub const TOO_DEEP: u32 = 12;
 
+// A literal or a numeral above the ceiling (02 C-17).
+pub const LITERAL_ABOVE_CEILING: u32 = 15;
+
 // A store that has not the number of values asked for.
 pub const BAD_STORE: u32 = 6;
+
+// A rule number of weighing other than 1 or 2 (02 C-11).
+pub const BAD_RULE: u32 = 11;
 
 // Words that hold no state of the program (02 C-14).
 pub const BAD_STATE: u32 = 13;
 
-// A rule number of weighing other than 1 or 2 (02 C-11).
-pub const BAD_RULE: u32 = 11;
+// A value above the ceiling in a store that is read, or in a state (02 C-17).
+pub const VALUE_ABOVE_CEILING: u32 = 16;
 
 // A free variable.
 pub const FREE_VARIABLE: u32 = 7;

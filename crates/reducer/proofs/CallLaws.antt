@@ -34,7 +34,7 @@ refuses buf used budget n e h r answers =
     (answers .0 ∙ ap (λ (c : ReducerCall). c .answer) (sym is), answers .1 ∙ ap (λ (c : ReducerCall). c .replaced) (sym is), ap (λ (c : ReducerCall). c .buf) (sym is))
 
 module _ (buf : List ℕ) (used budget n k : ℕ) (checked : checkTerm buf used ≡ record { number = n; k = k }) where
-  -- rows 1 to 5
+  -- rows 1 to 5 and 15
   pub refuses-record : (n ≡ 0 → ⊥) → (r : Reduced) → (asRunAnswer (r .end) ≡ refusal n) × (r .replaced ≡ 0) → Gives r buf (runReducer buf used budget)
   refuses-record h = refuses buf used budget n (term-refuses buf used n k checked h (badBuffer buf used) refl (row 7 (openTerm buf used) ∷ [])) h
 

@@ -1,11 +1,11 @@
--- The run of the reducer, over bytes (01 "Reducer", "Run orders"; 02 C-13): rows 1 to 5 and 7, and the rules' run of the term.
+-- The run of the reducer, over bytes (01 "Reducer", "Run orders"; 02 C-13): rows 1 to 5, 15 and 7, and the rules' run of the term.
 use Prim.Native.Nat.{suc, zero, ℕ}
 use mathlib.Core.List.{List, [], _∷_}
 use lib.ListN.{length}
 use Rattle.record.specs.Answers.{padded}
 use Rattle.record.specs.declared.Header.{Header}
 use Rattle.record.specs.Header.{encodeTerm, okOf}
-use Rattle.record.specs.Rows.{Row, badBuffer, firstRow, headerOf, openTerm, row, termRows, theTermOf}
+use Rattle.record.specs.Rows.{Row, badBuffer, firstRow, headerOf, limitedTermRows, openTerm, row, theTermOf}
 use Rattle.rules.specs.Reduction.{reduce}
 use Rattle.rules.specs.Replaced.{replacedSum}
 use Rattle.rules.specs.Run.{Ran}
@@ -31,9 +31,9 @@ reducedTo h room budget t r = record {
   buf = padded room (encodeTerm h (r .state));
 }
 
--- The rows of the call, in the order of 01's table.
+-- The rows of the call, in the order of the table.
 abbrev pub reducerRows : List ℕ → ℕ → List Row
-reducerRows buf used = row 1 (badBuffer buf used) ∷ termRows buf used (row 7 (openTerm buf used) ∷ [])
+reducerRows buf used = row 1 (badBuffer buf used) ∷ limitedTermRows buf used (row 7 (openTerm buf used) ∷ [])
 
 -- By the number of the first row that applies, 0 where none does: the run, or a refusal and the buffer as it came.
 unfoldable pub reducerBy : ℕ → List ℕ → ℕ → ℕ → ReducerCall

@@ -11,7 +11,7 @@ use Rattle.run.specs.Represents.{asRunAnswer}
 use Rattle.reducer.specs.declared.answer.Reduced.{Reduced}
 use Rattle.reducer.specs.RunReducer.{ReducerCall, reducedTo, reductions}
 
--- What rows 1 to 5 and 7 let through: the record of the closed term t in the buffer.
+-- What rows 1 to 5, 15 and 7 let through: the record of the closed term t in the buffer.
 pub record Accepted (h : Header) (t : Term) (buf : List ℕ) (used : ℕ) : Type 0 where
   pub holds : TermIn noVars h t buf used
   pub short : length buf ≤ 16384

@@ -1,4 +1,4 @@
-// The reducer's run: rows 1 to 5 and 7, and then one reduction after another in the lent buffer.
+// The reducer's run: rows 1 to 5, 15 and 7, and then one reduction after another in the lent buffer.
 pub mod answer;
 
 ghost use lib.ListN.{length};

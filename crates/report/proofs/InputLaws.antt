@@ -4,7 +4,7 @@ use mathlib.Core.Path.{_≡_, ap, refl, sym, _∙_}
 use mathlib.Core.List.{_++_, List, [], _∷_}
 use native.Mathlib.Numerals.{add-one}
 use native.Mathlib.Omega.{arith}
-use lib.ListN.{drop, length, set, take}
+use lib.ListN.{drop, getD, length, set, take}
 use lib.Seq.{drop-drop, take-all, take-suc-set, take-take}
 use Rattle.buffer.specs.LittleEndian.{val}
 use Rattle.buffer.specs.Slice.{part}
@@ -40,6 +40,14 @@ values-snoc (suc i) bytes =
 pub length-values : (n : ℕ) (bytes : List ℕ) → length (valuesIn n bytes) ≡ n
 length-values zero bytes = ap (length {A = ℕ}) (values-none bytes)
 length-values (suc n) bytes = ap (length {A = ℕ}) (values-more n bytes) ∙ ap suc (length-values n (drop 4 bytes))
+
+-- The one at a place.
+pub value-at : (n i : ℕ) (bytes : List ℕ) → i < n → getD (valuesIn n bytes) i 0 ≡ val (part bytes (4 * i) 4)
+unfolding part
+value-at zero i bytes h = absurd (omega arith)
+value-at (suc n) zero bytes h = ap (λ (l : List ℕ). getD l 0 0) (values-more n bytes)
+value-at (suc n) (suc i) bytes h =
+    ap (λ (l : List ℕ). getD l (suc i) 0) (values-more n bytes) ∙ value-at n i (drop 4 bytes) (omega arith) ∙ ap val (value-next i bytes)
 
 -- A turn of the loop that reads them, and its beginning and end.
 pub none-read : (store bytes : List ℕ) → take 0 store ≡ valuesIn 0 bytes

@@ -14,7 +14,7 @@ use Rattle.buffer.proofs.LittleEndianLaws.{bytes-take}
 use Rattle.record.specs.Answers.{Checked, checkProgram, checkProgramRows, checkedBy}
 use Rattle.record.specs.declared.Header.{Header}
 use Rattle.record.specs.Holding.{ProgramIn}
-use Rattle.record.specs.Rows.{NoRow, Row, badBuffer, firstRow, programRows, row}
+use Rattle.record.specs.Rows.{NoRow, Row, badBuffer, firstRow, limitedProgramRows, row}
 use Rattle.record.proofs.AnswerLaws.{check-program-number, check-program-refused, checked-accepted, checked-refused}
 use Rattle.record.proofs.CheckedRowLaws.{program-accepted}
 use Rattle.record.proofs.HeldLaws.{buffer-good}
@@ -44,7 +44,7 @@ module _ (input : List ℕ) where
       ∙ first-skips 1 (ltb 16384 (saidLength input)) _ (le-ltb 16384 (saidLength input) l)
       ∙ first-applies 2 (ltb (length input) (saidLength input)) _ (lt-ltb (length input) (saidLength input) s)
 
-  rows-whole : (more : List Row) → WholeRecord input → firstRow (inputRows input more) ≡ firstRow (programRows (recordOf input) (saidLength input) (row6 input ∷ more))
+  rows-whole : (more : List Row) → WholeRecord input → firstRow (inputRows input more) ≡ firstRow (limitedProgramRows (recordOf input) (saidLength input) (row6 input ∷ more))
   rows-whole more w =
       first-skips 2 (ltb (length input) 2) _ (le-ltb (length input) 2 (w .two))
       ∙ first-skips 1 (ltb 16384 (saidLength input)) _ (le-ltb 16384 (saidLength input) (w .fits))
@@ -59,20 +59,20 @@ module _ (input : List ℕ) where
     record-buffer =
         buffer-good (recordOf input) (saidLength input) record { low = omega (arith, record-size, w .fits); within = omega (arith, record-size) }
 
-    checked-rows : firstRow (checkProgramRows (recordOf input) (saidLength input)) ≡ firstRow (programRows (recordOf input) (saidLength input) [])
+    checked-rows : firstRow (checkProgramRows (recordOf input) (saidLength input)) ≡ firstRow (limitedProgramRows (recordOf input) (saidLength input) [])
     checked-rows = first-skips 1 (badBuffer (recordOf input) (saidLength input)) _ record-buffer
 
     rows-checked : (more : List Row) → (firstRow (checkProgramRows (recordOf input) (saidLength input)) ≡ 0 → ⊥)
         → firstRow (inputRows input more) ≡ firstRow (checkProgramRows (recordOf input) (saidLength input))
     rows-checked more n =
         rows-whole more w
-        ∙ first-before (programRows (recordOf input) (saidLength input) []) (row6 input ∷ more) (λ z. n (checked-rows ∙ z))
+        ∙ first-before (limitedProgramRows (recordOf input) (saidLength input) []) (row6 input ∷ more) (λ z. n (checked-rows ∙ z))
         ∙ sym checked-rows
 
     pub rows-behind : (more : List Row) → NoRow (checkProgramRows (recordOf input) (saidLength input)) → firstRow (inputRows input more) ≡ firstRow (row6 input ∷ more)
     rows-behind more r =
         rows-whole more w
-        ∙ first-behind (programRows (recordOf input) (saidLength input) []) (row6 input ∷ more) (r .1)
+        ∙ first-behind (limitedProgramRows (recordOf input) (saidLength input) []) (row6 input ∷ more) (r .1)
 
 -- WHAT THE CODE ANSWERS
 

@@ -6,7 +6,7 @@ use lib.Dec.{eqb, ltb}
 use lib.ListN.{drop, length, replicate, take}
 use Rattle.buffer.specs.LittleEndian.{val}
 use Rattle.record.specs.Answers.{Wrote, padded, tooShort}
-use Rattle.record.specs.Rows.{Row, firstRow, kOf, programRows, row}
+use Rattle.record.specs.Rows.{Row, firstRow, kOf, limitedProgramRows, row, valuesAbove}
 use Rattle.reducer.specs.RunReducer.{ReducerCall, runReducer}
 use Rattle.stepper.specs.RunStepper.{StepperCall, runStepper}
 use Rattle.term.specs.Calls.{Substituted, substituteCall, translateCall, translated}
@@ -65,20 +65,23 @@ substitutedFrom input t = substituteCall (t .written) (t .used) (storeOf input)
 unfoldable pub reducerRun : List ℕ → ReducerCall
 reducerRun input = reducerFrom (substitutedFrom input (termOfInput input))
 
--- THE REFUSALS, in their order: under 2 bytes; a first length above 16,384; an input shorter than that length; rows 2 to 5 of
--- the record; a remainder that is not k values; a term longer than the buffer
+-- THE REFUSALS, in their order: under 2 bytes; a first length above 16,384; an input shorter than that length; rows 2 to 5 and 15 of
+-- the record; a remainder that is not k values; a value above the ceiling; a term longer than the buffer
 
--- All but the last, and then more.
+-- All but the last two, and then more.
 abbrev pub inputRows : List ℕ → List Row → List Row
 inputRows input more =
     row 2 (ltb (length input) 2)
     ∷ row 1 (ltb 16384 (saidLength input))
     ∷ row 2 (ltb (length input) (saidLength input))
-    ∷ programRows (recordOf input) (saidLength input) (row 6 (not (eqb (length input - saidLength input) (4 * kOfInput input))) ∷ more)
+    ∷ limitedProgramRows (recordOf input) (saidLength input)
+    (row 6 (not (eqb (length input - saidLength input) (4 * kOfInput input))) ∷ more)
 
--- All of them; the last is row 10.
+-- All of them; the last are rows 16 and 10.
 abbrev pub lineRows : List ℕ → List Row
-lineRows input = inputRows input (row 10 (tooShort (replicate programBuffer 0) (translated (recordOf input) (saidLength input))) ∷ [])
+lineRows input =
+    inputRows input
+    (row 16 (valuesAbove (recordOf input) (saidLength input) (storeOf input)) ∷ row 10 (tooShort (replicate programBuffer 0) (translated (recordOf input) (saidLength input))) ∷ [])
 
 -- THE LINE
 

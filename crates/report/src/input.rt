@@ -25,7 +25,7 @@ fn refused(number: u32) -> Checked
     Checked { number, k: 0 }
 }
 
-// Every refusal but the last, which takes the translation to see. Whatever was read, what is accepted fits the buffers.
+// Every refusal but the last two, which take the values and the translation to see. Whatever was read, what is accepted fits the buffers.
 pub fn check_input(a: &[u8], total: usize) -> Checked
     requires { ⌜ length (now a) ≡ programBuffer ⌝ }
     ensures { λ r. ⌜ ((input : List ℕ) → RecordRead input (now (a .entry)) total → asChecked r ≡ checkedBy (firstRow (inputRows input [])) (kOfInput input)) × (r .number ≡ 0 → (val (part (now (a .entry)) 0 2) ≤ 16384) × (r .k ≤ 16)) ⌝ }

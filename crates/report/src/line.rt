@@ -12,10 +12,12 @@ use crate::input::check_input;
 use crate::input::read_values;
 use buffer::get_u16;
 use buffer::zero;
+use checker::some_above;
 use print::put_ran;
 use print::put_refused;
 use record::limit::VARIABLES;
 use record::refusal::BAD_STORE;
+use record::refusal::VALUE_ABOVE_CEILING;
 use reducer::run_reducer;
 use stepper::run_stepper;
 use term::substitute::substitute;
@@ -25,18 +27,10 @@ const BUDGET: u32 = 1000000;
 
 // Both runs, each in its buffer, and their line in the reducer's, which is free by then. The store is filled in before the
 // stepper changes it.
-fn run_both(
-    a: &mut [u8],
-    said: usize,
-    b: &mut [u8],
-    used: usize,
-    behind: &[u8],
-    store: &mut [u32],
-) -> usize
-    requires { ⌜ (length (now b) ≡ programBuffer) × (length (now store) ≤ 16) × (4 * length (now store) ≤ length (now behind)) ⌝ }
-    ensures { λ r. ⌜ (take r (now (b .exit)) ≡ runsLine (runStepper (now (a .entry)) said (valuesIn (length (now (store .entry))) (now (behind .entry))) programBudget) (reducerFrom (substituteCall (now (b .entry)) used (valuesIn (length (now (store .entry))) (now (behind .entry)))))) × (r ≤ 256) ⌝ }
+fn run_both(a: &mut [u8], said: usize, b: &mut [u8], used: usize, store: &mut [u32]) -> usize
+    requires { ⌜ (length (now b) ≡ programBuffer) × (length (now store) ≤ 16) ⌝ }
+    ensures { λ r. ⌜ (take r (now (b .exit)) ≡ runsLine (runStepper (now (a .entry)) said (now (store .entry)) programBudget) (reducerFrom (substituteCall (now (b .entry)) used (now (store .entry))))) × (r ≤ 256) ⌝ }
 {
-    read_values(behind, store);
     let filled = substitute(b, used, store);
     let stepper = run_stepper(a, said, store, BUDGET);
     let reducer = run_reducer(b, filled.used as usize, BUDGET);
@@ -56,19 +50,17 @@ pub fn line(a: &mut [u8], b: &mut [u8], behind: &[u8], total: usize) -> usize
     if behind.len() < 4 * checked.k as usize {
         return put_refused(b, BAD_STORE);
     }
+    let mut values = [0; VARIABLES as usize];
+    let store = &mut values[..checked.k as usize];
+    read_values(behind, store);
+    if some_above(store, record::read_header(a).largest()) {
+        return put_refused(b, VALUE_ABOVE_CEILING);
+    }
     let said = get_u16(a, 0);
     let term = translate(&a[..said], said, b);
     if term.number != 0 {
         return put_refused(b, term.number);
     }
     zero(a, said, a.len() - said);
-    let mut store = [0; VARIABLES as usize];
-    run_both(
-        a,
-        said,
-        b,
-        term.used as usize,
-        behind,
-        &mut store[..checked.k as usize],
-    )
+    run_both(a, said, b, term.used as usize, store)
 }

@@ -55,6 +55,11 @@ pub iterate-first : {A : Type 0} (f : A → Answer A) (n : ℕ) (a b c : A) → 
 unfolding iterate orStop
 iterate-first {A} f n a b c p q = ap (λ (o : Answer A). orStop o (λ (d : A). iterate f n d)) p ∙ q
 
+-- what follows the first stretch of steps
+pub iterate-split : {A : Type 0} (f : A → Answer A) (m n : ℕ) (a b : A) → iterate f m a ≡ some b → iterate f (m + n) a ≡ iterate f n b
+unfolding thenIterate
+iterate-split f m n a b e = iterate-add f m n a ∙ rw e refl
+
 -- two stretches of steps are one
 pub iterate-further : {A : Type 0} (f : A → Answer A) (m n : ℕ) (a b c : A) → iterate f m a ≡ some b → iterate f n b ≡ some c → iterate f (m + n) a ≡ some c
 unfolding thenIterate

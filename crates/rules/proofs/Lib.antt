@@ -4,11 +4,13 @@ pub mod SubstitutionLaws
 pub mod ScopeLaws
 pub mod FreeVariablesLaws
 pub mod IterateLaws
+pub mod RestLaws
 pub mod LockStep
 pub mod ReadBackLaws
 pub mod FinishedLaws
 pub mod SoundConfigLaws
 pub mod SoundTermLaws
+pub mod LiteralsLaws
 pub mod RunLaws
 pub mod OutcomeLaws
 pub mod PlayLaws

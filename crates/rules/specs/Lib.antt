@@ -9,6 +9,7 @@ pub mod ReadBack
 pub mod Scope
 pub mod FreeVariables
 pub mod Sound
+pub mod Literals
 pub mod Run
 pub mod Evaluate
 pub mod Play

@@ -2,3 +2,4 @@ pub mod ClassLaws
 pub mod PlaceLaws
 pub mod EntryLaws
 pub mod WalkLaws
+pub mod CountsLaws

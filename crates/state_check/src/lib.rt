@@ -1,5 +1,7 @@
 // Whether words hold a state of the program (02 C-14, refusal 13): the entries from the outermost inwards, over the words and
 // the program's bytes. A place is counted from the program's first command, which stands at `start`.
+pub mod counts;
+
 ghost use mathlib.Core.Path.{_≡_};
 ghost use Prim.Native.Nat.{_+_, _≤_};
 ghost use lib.ListN.{getD, length};

@@ -2,13 +2,13 @@
 use Prim.Native.Nat.{suc, zero, ℕ, _≤_}
 use mathlib.Core.Path.{ap, refl, subst, sym, _∙_, _≡_}
 use mathlib.Core.Logic.{Iff·trans}
-use mathlib.Core.List.{List, [], _∷_}
+use mathlib.Core.List.{List, []}
 use lib.ListN.{length}
 use native.Mathlib.Omega.{arith}
 use Rattle.record.specs.declared.Header.{Header}
 use Rattle.record.specs.Header.{okOf}
 use Rattle.record.specs.Holding.{ProgramIn}
-use Rattle.record.specs.Rows.{badBuffer, badStore, firstRow, kOf, row}
+use Rattle.record.specs.Rows.{badBuffer, firstRow, headerOf, kOf, storeRows}
 use Rattle.record.specs.Term.{same}
 use Rattle.rules.specs.Run.{Ran}
 use Rattle.rules.specs.Sound.{SmallValues, SoundConfig}
@@ -17,7 +17,7 @@ use Rattle.rules.specs.Syntax.{Block, Config}
 use Rattle.run.specs.RunAnswer.{refusal, roomFor}
 use Rattle.record.proofs.HeaderLaws.{ok-limit}
 use Rattle.record.proofs.PaddedLaws.{length-padded}
-use Rattle.record.proofs.HeldLaws.{good-store, store-good}
+use Rattle.record.proofs.HeldLaws.{good-store, good-values, store-good, values-good}
 use Rattle.record.proofs.HoldingLaws.{padded-program, program-header, program-is, program-k, program-passed, program-passes, program-size}
 use Rattle.record.proofs.RowLaws.{first-none, none-first}
 use Rattle.rules.proofs.FinishedLaws.{step-finished}
@@ -56,19 +56,28 @@ pub record StepperTakes (hd : Header) (buf : List ℕ) (used n : ℕ) (store : L
   pub low : length buf ≤ 16384
   -- the used length is the record's own
   pub same : n ≡ used
-  pub values : length store ≡ hd .k
+  pub count : length store ≡ hd .k
+  pub values : SmallValues (okOf hd) store
 
 pub stepper-takes : {hd : Header} {P : Block} {buf : List ℕ} {used : ℕ} → ProgramIn hd P buf used → (n : ℕ) (store : List ℕ)
     → firstRow (stepperRows buf n store) ≡ 0 → StepperTakes hd buf used n store
 stepper-takes {hd} {P} {buf} {used} h n store e =
-    let p = program-passed h n (badBuffer buf n) (λ q. q) (row 6 (badStore buf n store) ∷ []) (first-none (stepperRows buf n store) refl e) in
-    record { low = p .low; same = p .same; values = good-store buf n store (p .behind .0) ∙ ap (kOf buf) (p .same) ∙ program-k h }
+    let p = program-passed h n (badBuffer buf n) (λ q. q) (storeRows buf n store []) (first-none (stepperRows buf n store) refl e) in
+    record {
+      low = p .low;
+      same = p .same;
+      count = good-store buf n store (p .behind .0) ∙ ap (kOf buf) (p .same) ∙ program-k h;
+      values = subst (λ (x : Header). SmallValues (okOf x) store) (ap (headerOf buf) (p .same) ∙ program-header h) (good-values buf n store (p .behind .1 .0));
+    }
 
 pub stepper-passes : {hd : Header} {P : Block} {buf : List ℕ} {used : ℕ} → ProgramIn hd P buf used → length buf ≤ 16384 → (store : List ℕ) → length store ≡ hd .k
-    → firstRow (stepperRows buf used store) ≡ 0
-stepper-passes {hd} {P} {buf} {used} h l store e =
+    → SmallValues (okOf hd) store → firstRow (stepperRows buf used store) ≡ 0
+stepper-passes {hd} {P} {buf} {used} h l store e v =
     none-first (stepperRows buf used store)
-    (program-passes h l (row 6 (badStore buf used store) ∷ []) (store-good buf used store (e ∙ sym (program-k h)), tt))
+    (program-passes h l (storeRows buf used store []) (
+      store-good buf used store (e ∙ sym (program-k h)),
+      (values-good buf used store (subst (λ (x : Header). SmallValues (okOf x) store) (sym (program-header h)) v), tt),
+    ))
 
 -- AN ACCEPTED RUN is the rules' run of the configuration that is lent
 
@@ -83,7 +92,7 @@ module _ {hd : Header} {P : Block} {buf : List ℕ} {used : ℕ} (h : ProgramIn 
   pub stepper-is : runStepper buf used store budget ≡ steppedTo hd (length buf) budget ran
   unfolding runStepper stepperBy
   stepper-is =
-      ap (λ (m : ℕ). stepperBy m buf used store budget) (stepper-passes h l store e)
+      ap (λ (m : ℕ). stepperBy m buf used store budget) (stepper-passes h l store e hs)
       ∙ rw (program-header h, program-is h l) refl
 
   sound-left : SoundConfig (okOf hd) (hd .k) (ran .state)

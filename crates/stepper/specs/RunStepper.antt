@@ -1,11 +1,12 @@
--- The run of the stepper, over bytes (01 "Stepper", "Run orders"): rows 1 to 6, and the rules' run of the configuration.
+-- The run of the stepper, over bytes (01 "Stepper", "Run orders"): rows 1 to 6, 15 and 16, and the
+-- rules' run of the configuration.
 use Prim.Native.Nat.{suc, zero, ℕ}
 use mathlib.Core.List.{List, [], _∷_}
 use lib.ListN.{length}
 use Rattle.record.specs.Answers.{padded}
 use Rattle.record.specs.declared.Header.{Header}
 use Rattle.record.specs.Header.{okOf}
-use Rattle.record.specs.Rows.{Row, badBuffer, badStore, firstRow, headerOf, programOf, programRows, row}
+use Rattle.record.specs.Rows.{Row, badBuffer, firstRow, headerOf, limitedProgramRows, programOf, row, storeRows}
 use Rattle.rules.specs.Run.{Ran}
 use Rattle.rules.specs.Step.{step}
 use Rattle.rules.specs.Syntax.{Config}
@@ -34,9 +35,9 @@ steppedTo h room budget r = record {
   store = r .state .store;
 }
 
--- The rows of the call, in the order of 01's table.
+-- The rows of the call, in the order of the table.
 abbrev pub stepperRows : List ℕ → ℕ → List ℕ → List Row
-stepperRows buf used store = row 1 (badBuffer buf used) ∷ programRows buf used (row 6 (badStore buf used store) ∷ [])
+stepperRows buf used store = row 1 (badBuffer buf used) ∷ limitedProgramRows buf used (storeRows buf used store [])
 
 -- By the number of the first row that applies, 0 where none does: the run, or a refusal and buffer and store as they came.
 unfoldable pub stepperBy : ℕ → List ℕ → ℕ → List ℕ → ℕ → StepperCall

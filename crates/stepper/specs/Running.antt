@@ -13,7 +13,7 @@ use Rattle.run.specs.declared.RunEnd.{RunEnd}
 use Rattle.run.specs.Represents.{asRunAnswer}
 use Rattle.stepper.specs.RunStepper.{StepperCall, steppedTo, steps}
 
--- What rows 1 to 6 let through: the record of the program P in the buffer, and k values.
+-- What rows 1 to 6, 15 and 16 let through: the record of the program P in the buffer, and k values, none above the ceiling.
 pub record Accepted (h : Header) (P : Block) (buf : List ℕ) (used : ℕ) (store : List ℕ) : Type 0 where
   pub holds : ProgramIn h P buf used
   pub short : length buf ≤ 16384

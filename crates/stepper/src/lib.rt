@@ -1,15 +1,17 @@
-// The stepper's run: rows 1 to 6, and then one step after another in the lent buffer and store.
+// The stepper's run: rows 1 to 6, 15 and 16, and then one step after another in the lent buffer and store.
 ghost use mathlib.Core.Path.{_≡_};
 ghost use lib.ListN.{length};
 ghost use Rattle.rules.specs.Syntax.{Block};
 ghost use Rattle.run.specs.Represents.{asRunAnswer};
 ghost use Rattle.stepper.specs.RunStepper.{runStepper};
 ghost use Rattle.stepper.specs.Running.{Accepted, Gives, acceptedRun};
+use checker::some_above;
 use command::look;
 use plan::outcome_of;
 use program_checker::check_program;
 use record::Header;
 use record::refusal::BAD_STORE;
+use record::refusal::VALUE_ABOVE_CEILING;
 use run::RunEnd;
 use run::Tally;
 use stepping::perform;
@@ -56,5 +58,8 @@ pub fn run_stepper(buf: &mut [u8], used: usize, store: &mut [u32], budget: u32) 
         return run::refuse(BAD_STORE);
     }
     let h = record::read_header(buf);
+    if some_above(store, h.largest()) {
+        return run::refuse(VALUE_ABOVE_CEILING);
+    }
     run_accepted(buf, used, h, store, budget)
 }

@@ -8,19 +8,23 @@ use lib.ListN.{length}
 use native.Mathlib.Omega.{arith}
 use Rattle.record.specs.Answers.{Stored, Wrote, checkProgram, checkTerm, checkTermRows, padded}
 use Rattle.record.specs.declared.Header.{Header}
-use Rattle.record.specs.Header.{encodeProgram, encodeTerm}
+use Rattle.record.specs.Header.{encodeProgram, encodeTerm, largestOf, okOf}
 use Rattle.record.specs.Holding.{ProgramIn, TermIn}
-use Rattle.record.specs.Rows.{Row, badBuffer, badStore, finishedTerm, firstRow, isNone, row, termRows, tooLong}
+use Rattle.record.specs.Rows.{Row, badBuffer, badStore, finishedTerm, firstRow, isNone, limitedTermRows, row, storeRows, tooLong, valuesAbove}
 use Rattle.rules.specs.FreeVariables.{allVars, closed, closedIn, noVars}
+use Rattle.rules.specs.Literals.{smallValues}
 use Rattle.rules.specs.ReadBack.{readBack}
 use Rattle.rules.specs.Reduction.{valueOf}
 use Rattle.rules.specs.Replaced.{replaced}
+use Rattle.rules.specs.Sound.{SmallValues}
+use Rattle.rules.specs.Store.{upTo}
 use Rattle.rules.specs.Substitution.{fromStore, substitute}
 use Rattle.rules.specs.Syntax.{Block, Term, num, tuple}
 use Rattle.rules.specs.Translation.{translate}
 use Rattle.record.proofs.CheckedRowLaws.{closed-term, program-refuses, term-refuses}
 use Rattle.record.proofs.HeaderLaws.{length-encodeTerm}
-use Rattle.record.proofs.HoldingLaws.{term-k, term-passes, term-size}
+use Rattle.record.proofs.HeldLaws.{good-values, store-good, values-read}
+use Rattle.record.proofs.HoldingLaws.{term-header, term-k, term-passes, term-size}
 use Rattle.record.proofs.SizeLaws.{replaced-most}
 use Rattle.record.proofs.RowLaws.{first-applies, first-behind, first-skips, isNone-none, isNone-some, not-intro, or-right, or-true}
 use Rattle.record.proofs.RowMeaningLaws.{finished-iff, rows-mean}
@@ -122,7 +126,7 @@ source-found (some P) found e f = (P, refl)
 -- ROW 6
 
 six-first : {hd : Header} {t : Term} {buf : List ℕ} {used : ℕ} → TermIn allVars hd t buf used → length buf ≤ 16384 → (store : List ℕ) → (length store ≡ hd .k → ⊥) → (more : List Row)
-    → firstRow (row 1 (badBuffer buf used) ∷ termRows buf used (row 6 (badStore buf used store) ∷ more)) ≡ 6
+    → firstRow (row 1 (badBuffer buf used) ∷ limitedTermRows buf used (row 6 (badStore buf used store) ∷ more)) ≡ 6
 six-first {hd} {t} {buf} {used} h l store n more =
     first-behind (checkTermRows buf used) (row 6 (badStore buf used store) ∷ more) (term-passes h l [] tt)
     ∙ first-applies 6 (badStore buf used store) more (rows-mean .six buf used store .1 (λ e. n (e ∙ term-k h)))
@@ -146,15 +150,31 @@ substitute-checked buf used n k store e h = substitute-row buf used store n (ter
 
 module _ {hd : Header} {t : Term} {buf : List ℕ} {used : ℕ} (h : TermIn allVars hd t buf used) (l : length buf ≤ 16384) (store : List ℕ) where
   pub substitute-six : (length store ≡ hd .k → ⊥) → refusing 6 buf ≡ substituteCall buf used store
-  substitute-six n = substitute-row buf used store 6 (six-first h l store n []) (λ z. omega (arith, z))
+  substitute-six n = substitute-row buf used store 6 (six-first h l store n _) (λ z. omega (arith, z))
+
+  -- row 16, by the largest value that the header has
+  module _ (e : length store ≡ hd .k) (largest : ℕ) (limits : largest ≡ largestOf hd) (above : Bool) (tells : above ≡ not (smallValues (upTo largest) store)) where
+    values-as : valuesAbove buf used store ≡ above
+    values-as = values-read buf used hd (term-header h) largest limits store above tells
+
+    pub substitute-sixteen : above ≡ true → refusing 16 buf ≡ substituteCall buf used store
+    substitute-sixteen t =
+        substitute-row buf used store 16
+        (first-behind (checkTermRows buf used) (storeRows buf used store []) (term-passes h l [] tt)
+        ∙ first-skips 6 (badStore buf used store) _ (store-good buf used store (e ∙ sym (term-k h)))
+        ∙ first-applies 16 (valuesAbove buf used store) [] (values-as ∙ t))
+        (λ z. omega (arith, z))
+
+    pub values-small : above ≡ false → SmallValues (okOf hd) store
+    values-small f = subst (λ (x : Header). SmallValues (okOf x) store) (term-header h) (good-values buf used store (values-as ∙ f))
 
   -- at most a variable for every 8 bytes is replaced, and so the count takes 4 bytes
   pub substitute-few : (n : ℕ) → n ≡ replaced (fromStore store) t → n ≤ 2048
   substitute-few n e = omega (arith, replaced-most (fromStore store) t, length-encodeTerm hd t, term-size h, h .within, l)
 
-  pub substitute-zero : length store ≡ hd .k → (after : List ℕ) (n : ℕ) → (after ≡ padded (length buf) (encodeTerm hd (substitute (fromStore store) t))) × (n ≡ replaced (fromStore store) t)
+  pub substitute-zero : length store ≡ hd .k → SmallValues (okOf hd) store → (after : List ℕ) (n : ℕ) → (after ≡ padded (length buf) (encodeTerm hd (substitute (fromStore store) t))) × (n ≡ replaced (fromStore store) t)
       → record { number = 0; used = used; replaced = n; written = after } ≡ substituteCall buf used store
-  substitute-zero e after n a = ap₂ (λ (b : List ℕ) (m : ℕ). record { number = 0; used = used; replaced = m; written = b }) (a .0) (a .1) ∙ sym (substitute-gives h l store e)
+  substitute-zero e v after n a = ap₂ (λ (b : List ℕ) (m : ℕ). record { number = 0; used = used; replaced = m; written = b }) (a .0) (a .1) ∙ sym (substitute-gives h l store e v)
 
 -- RESULT
 

@@ -1,6 +1,6 @@
 -- Laws of translate, read back, substitute and result.
 use Prim.Native.Nat.{_+_, _<_, suc, zero, ℕ, _≤_}
-use mathlib.Core.Path.{ap, ap₂, refl, sym, _∙_, _≡_}
+use mathlib.Core.Path.{ap, ap₂, refl, subst, sym, _∙_, _≡_}
 use mathlib.Core.Logic.{inl, inr, _↔_, _⊎_}
 use mathlib.Core.Bool.{Bool, false, not, true, _||_}
 use mathlib.Core.List.{List, [], _∷_}
@@ -13,18 +13,19 @@ use Rattle.record.specs.Answers.{Wrote, checkTermRows, padded, tooShort}
 use Rattle.record.specs.declared.Header.{Header}
 use Rattle.record.specs.Header.{HeaderFits, contentsAt, encodeProgram, encodeTerm, okOf}
 use Rattle.record.specs.Holding.{ProgramIn, TermIn}
-use Rattle.record.specs.Rows.{badBuffer, badStore, finishedTerm, firstRow, openTerm, row, theTermOf, tooLong, unfinished}
+use Rattle.record.specs.Rows.{badBuffer, badStore, finishedTerm, firstRow, openTerm, row, storeRows, theTermOf, tooLong, unfinished}
 use Rattle.rules.specs.FreeVariables.{Vars, allVars, closed}
 use Rattle.rules.specs.ReadBack.{readBack}
 use Rattle.rules.specs.Replaced.{replaced}
+use Rattle.rules.specs.Sound.{SmallValues}
 use Rattle.rules.specs.Substitution.{fromStore, substitute}
 use Rattle.rules.specs.Syntax.{Block, Term, empty}
 use Rattle.rules.specs.Translation.{translate}
 use Rattle.record.proofs.AnswerLaws.{fits-out, short-out, stored-number, stored-refused, wrote-accepted, wrote-number, wrote-refused}
 use Rattle.record.proofs.PaddedLaws.{length-padded}
 use Rattle.record.proofs.HeaderLaws.{length-encodeTerm, ok-limit}
-use Rattle.record.proofs.HeldLaws.{not-long, short-buffer, store-good}
-use Rattle.record.proofs.HoldingLaws.{padded-term, program-first, program-header, program-is, store-size, term-first, term-header, term-is, term-k, term-open, term-passes, term-size, term-unfinished}
+use Rattle.record.proofs.HeldLaws.{not-long, short-buffer, store-good, values-good}
+use Rattle.record.proofs.HoldingLaws.{padded-term, program-first, program-header, program-is, store-size, store-values, term-first, term-header, term-is, term-k, term-open, term-passes, term-size, term-unfinished}
 use Rattle.record.proofs.RowLaws.{first-applies, first-none, first-skips, isNone-none, isNone-some, none-first, none-split, or-false, or-right, orElse-some}
 use Rattle.record.proofs.SizeLaws.{termSize-substitute}
 use Rattle.rules.proofs.ReadBackLaws.{readBack-translate, translate-readBack}
@@ -86,7 +87,7 @@ pub result-refused : (buf : List ℕ) (used : ℕ) (store : List ℕ) → (first
 unfolding resultCall
 result-refused buf used store h = stored-refused (firstRow (resultRows buf used store)) (numerals (theTermOf buf used)) store h
 
--- an accepted translation's output buffer is not too long, and an accepted substitution's store has k values
+-- an accepted translation's output buffer is not too long, and an accepted substitution's store has k values, none above the ceiling
 pub translate-out : (src : List ℕ) (used : ℕ) (out : List ℕ) → (translateCall src used out) .number ≡ 0 → length out ≤ 16384
 translate-out src used out z =
     let r = first-none (translateRows src used out) refl (sym (translate-number src used out) ∙ z) in
@@ -96,7 +97,13 @@ pub stored-size : (hd : Header) (t : Term) (buf : List ℕ) (used : ℕ) (store 
     → (substituteCall buf used store) .number ≡ 0 → length store ≡ hd .k
 stored-size hd t buf used store f held z =
     let r = first-none (substituteRows buf used store) refl (sym (substitute-number buf used store) ∙ z) in
-    store-size hd t buf used store f held (none-split (checkTermRows buf used) (row 6 (badStore buf used store) ∷ []) r .1 .0)
+    store-size hd t buf used store f held (none-split (checkTermRows buf used) (storeRows buf used store []) r .1 .0)
+
+pub stored-values : (hd : Header) (t : Term) (buf : List ℕ) (used : ℕ) (store : List ℕ) → HeaderFits hd → take used buf ≡ encodeTerm hd t
+    → (substituteCall buf used store) .number ≡ 0 → SmallValues (okOf hd) store
+stored-values hd t buf used store f held z =
+    let r = first-none (substituteRows buf used store) refl (sym (substitute-number buf used store) ∙ z) in
+    store-values hd t buf used store f held (none-split (checkTermRows buf used) (storeRows buf used store []) r .1 .1 .0)
 
 -- TRANSLATE, of a program in a buffer
 
@@ -153,13 +160,16 @@ module _ {S : Vars} {hd : Header} {t : Term} {buf : List ℕ} {used : ℕ} (h : 
   substituted-is : (store : List ℕ) → substituted buf used store ≡ encodeTerm hd (substitute (fromStore store) t)
   substituted-is store = ap₂ (λ (x : Header) (u : Term). encodeTerm x (substitute (fromStore store) u)) (term-header h) (term-is h l)
 
-  pub substitute-gives : (store : List ℕ) → length store ≡ hd .k
+  pub substitute-gives : (store : List ℕ) → length store ≡ hd .k → SmallValues (okOf hd) store
       → substituteCall buf used store
       ≡ record { number = 0; used = used; replaced = replaced (fromStore store) t; written = padded (length buf) (encodeTerm hd (substitute (fromStore store) t)) }
   unfolding substituteCall
-  substitute-gives store e =
+  substitute-gives store e v =
       let z : firstRow (substituteRows buf used store) ≡ 0 =
-      none-first (substituteRows buf used store) (term-passes h l (row 6 (badStore buf used store) ∷ []) (store-good buf used store (e ∙ sym (term-k h)), tt)) in
+      none-first (substituteRows buf used store) (term-passes h l (storeRows buf used store []) (
+        store-good buf used store (e ∙ sym (term-k h)),
+        (values-good buf used store (subst (λ (x : Header). SmallValues (okOf x) store) (sym (term-header h)) v), tt),
+      )) in
       let filled : List ℕ = padded (length buf) (encodeTerm hd (substitute (fromStore store) t)) in
       substituted-accepted (firstRow (substituteRows buf used store)) (substituted buf used store) _ buf z
       ∙ ap₂ (λ (b : List ℕ) (u : Term). record { number = 0; used = length b; replaced = replaced (fromStore store) u; written = padded (length buf) b }) (substituted-is store) (term-is h l)

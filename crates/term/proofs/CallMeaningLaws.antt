@@ -8,23 +8,25 @@ use mathlib.Core.Option.{some}
 use lib.Dec.{T}
 use lib.ListN.{length, take}
 use native.Mathlib.Omega.{arith}
-use Rattle.record.specs.Answers.{Wrote, checkProgram, padded}
+use Rattle.buffer.specs.LittleEndian.{Bytes}
+use Rattle.record.specs.Answers.{Wrote, checkProgram, padded, tooShort}
 use Rattle.record.specs.declared.Header.{Header}
 use Rattle.record.specs.Header.{encodeProgram, encodeTerm, okOf}
 use Rattle.record.specs.Holding.{IsProgram, ProgramIn, TermIn}
-use Rattle.record.specs.Rows.{finishedTerm, firstRow, row, theTermOf}
+use Rattle.record.specs.Rows.{badBuffer, finishedTerm, firstRow, headerOf, limitedProgramRows, limitedTermRows, row, theTermOf, tooLong}
 use Rattle.rules.specs.FreeVariables.{Free, allVars, closed, noVars}
 use Rattle.rules.specs.ReadBack.{readBack}
 use Rattle.rules.specs.Replaced.{references}
-use Rattle.rules.specs.Sound.{SoundTerm}
+use Rattle.rules.specs.Sound.{SmallValues, SoundTerm}
 use Rattle.rules.specs.Substitution.{fromStore, substitute}
 use Rattle.rules.specs.Syntax.{Atom, Block, Term, num, tuple}
 use Rattle.rules.specs.Translation.{translate}
 use Rattle.record.proofs.AnswerLaws.{stored-accepted, ten-iff}
 use Rattle.record.proofs.HeaderLaws.{ok-limit}
-use Rattle.record.proofs.HoldingLaws.{padded-program, program-checked, program-size, term-is, term-size, tuple-finished}
+use Rattle.record.proofs.HeldLaws.{good-buffer, short-buffer}
+use Rattle.record.proofs.HoldingLaws.{padded-program, passes-program, passes-term, program-checked, program-header, program-size, term-header, term-is, term-size, tuple-finished}
 use Rattle.record.proofs.PaddedLaws.{length-padded}
-use Rattle.record.proofs.RowLaws.{first-applies, first-skips, none-first, not-intro}
+use Rattle.record.proofs.RowLaws.{first-applies, first-none, first-skips, none-first, none-split, not-intro, or-false}
 use Rattle.record.proofs.RowMeaningLaws.{finished-iff, none-iff, not-iff}
 use Rattle.record.proofs.SizeLaws.{program-shorter}
 use Rattle.rules.proofs.FreeVariablesLaws.{free-closed}
@@ -33,13 +35,13 @@ use Rattle.rules.proofs.SoundTermLaws.{sound-closed, translate-sound}
 use Rattle.rules.proofs.ReplacedLaws.{replaced-references}
 use Rattle.rules.proofs.SubstitutionLaws.{values-num}
 use Rattle.term.specs.CallMeaning.{CallsMean, GivesBack}
-use Rattle.term.specs.Calls.{Substituted, noSource, numerals, readBackCall, resultCall, resultRows, sourceOf, substituteCall, translateCall}
-use Rattle.term.proofs.CallLaws.{readBack-fits, readBack-long, readBack-roomy, reads-back, reads-none, result-first, result-number, source-is, substitute-gives, translate-fits, translate-holds, translate-length, translate-long, translate-writes}
+use Rattle.term.specs.Calls.{Substituted, noSource, numerals, readBackCall, readBackRows, resultCall, resultRows, sourceBytes, sourceOf, substituteCall, translateCall, translateRows, translated}
+use Rattle.term.proofs.CallLaws.{readBack-fits, readBack-long, readBack-number, readBack-roomy, reads-back, reads-none, result-first, result-number, source-is, substitute-gives, translate-fits, translate-holds, translate-length, translate-long, translate-number, translate-writes}
 
 -- READ BACK, of a term in a buffer
 
 module _ {hd : Header} {t : Term} {src : List ℕ} {used : ℕ} (h : TermIn allVars hd t src used) where
-  -- what translates to a term that rows 1 to 5 let through is a program
+  -- what translates to a term that rows 1 to 5 and 15 let through is a program
   source-program : (P : Block) → translate (hd .k) P ≡ t → IsProgram hd P
   source-program P e =
       let q = translate-sound (okOf hd) (ok-limit hd) (hd .k) P (subst (SoundTerm (okOf hd) (hd .k) allVars) (sym e) (h .sound)) in
@@ -102,6 +104,30 @@ module _ {hd : Header} (P : Block) {src : List ℕ} {used : ℕ} (h : TermIn all
       translate-fits (g .holds) low back lb (rw n fb)
       ∙ ap₂ (λ (m : ℕ) (b : List ℕ). record { number = 0; used = m; written = padded (length back) b }) n (sym (h .bytes))
 
+-- THE HEADER TRAVELS
+
+module _ (src : List ℕ) (used : ℕ) (out : List ℕ) (hb : Bytes src) where
+  travels : (translateCall src used out) .number ≡ 0 → headerOf ((translateCall src used out) .written) ((translateCall src used out) .used) ≡ headerOf src used
+  travels z =
+      let r = first-none (translateRows src used out) refl (sym (translate-number src used out) ∙ z) in
+      let one = or-false (badBuffer src used) (tooLong out) (r .0) in
+      let l = good-buffer src used (one .0) .low in
+      let lo = short-buffer out (one .1) in
+      let p = passes-program src used hb (one .0, none-split (limitedProgramRows src used []) (row 10 (tooShort out (translated src used)) ∷ []) (r .1) .0) .1 in
+      ap (λ (w : Wrote). headerOf (w .written) (w .used)) (translate-writes p l out lo z) ∙ term-header (translate-holds p l out lo z)
+
+  travels-back : (readBackCall src used out) .number ≡ 0 → headerOf ((readBackCall src used out) .written) ((readBackCall src used out) .used) ≡ headerOf src used
+  travels-back z =
+      let hd : Header = headerOf src used in
+      let r = first-none (readBackRows src used out) refl (sym (readBack-number src used out) ∙ z) in
+      let one = or-false (badBuffer src used) (tooLong out) (r .0) in
+      let l = good-buffer src used (one .0) .low in
+      let lo = short-buffer out (one .1) in
+      let t = passes-term src used hb (one .0, none-split (limitedTermRows src used []) (row 9 (noSource src used) ∷ row 10 (tooShort out (sourceBytes src used)) ∷ []) (r .1) .0) .1 in
+      let q = reads-back t l out lo .0 (inl z) in
+      let h : TermIn allVars hd (translate (hd .k) (q .0)) src used = subst (λ (u : Term). TermIn allVars hd u src used) (sym (q .1)) t in
+      program-header (gives-back (q .0) h l out lo (readBack-roomy h l out lo (q .0) (readBack-translate (hd .k) (q .0)) z) .holds)
+
 -- RESULT
 
 pub result-gives : {hd : Header} {values buf : List ℕ} {used : ℕ} (h : TermIn noVars hd (tuple (map num values)) buf used) → length buf ≤ 16384 → (store : List ℕ) → length store ≡ hd .k
@@ -150,10 +176,10 @@ round-trip-back {hd} {t} {src} {used} h l out back lo lb fb z =
 
 -- SUBSTITUTE
 
-replaces : {hd : Header} {t : Term} {buf : List ℕ} {used : ℕ} → TermIn allVars hd t buf used → length buf ≤ 16384 → (store : List ℕ) → length store ≡ hd .k
+replaces : {hd : Header} {t : Term} {buf : List ℕ} {used : ℕ} → TermIn allVars hd t buf used → length buf ≤ 16384 → (store : List ℕ) → length store ≡ hd .k → SmallValues (okOf hd) store
     → references t ≡ (substituteCall buf used store) .replaced + references (substitute (fromStore store) t)
-replaces {hd} {t} h l store e =
-    replaced-references (fromStore store) t ∙ ap (λ (s : Substituted). s .replaced + references (substitute (fromStore store) t)) (sym (substitute-gives h l store e))
+replaces {hd} {t} h l store e v =
+    replaced-references (fromStore store) t ∙ ap (λ (s : Substituted). s .replaced + references (substitute (fromStore store) t)) (sym (substitute-gives h l store e v))
 
 -- ALL OF IT
 
@@ -171,6 +197,8 @@ calls-mean = record {
   noLonger = λ hd P src used h. source-shorter h P refl;
   roundTrip = λ hd P src used out back h l lo lb fb z. round-trip h l out back lo lb fb z;
   roundTripBack = λ hd t src used out back h l lo lb fb z. round-trip-back h l out back lo lb fb z;
+  travels = travels;
+  travelsBack = travels-back;
   substitutes = λ hd t buf used store h l. substitute-gives h l store;
   replaces = λ hd t buf used store h l. replaces h l store;
   results = λ hd values buf used store h l. result-gives h l store;

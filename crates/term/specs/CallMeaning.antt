@@ -5,12 +5,15 @@ use mathlib.Core.Logic.{_↔_, _⊎_}
 use mathlib.Core.Bool.{true}
 use mathlib.Core.List.{List, map}
 use lib.ListN.{length, take}
+use Rattle.buffer.specs.LittleEndian.{Bytes}
 use Rattle.record.specs.Answers.{Wrote, checkProgram, padded, tooShort}
 use Rattle.record.specs.declared.Header.{Header}
-use Rattle.record.specs.Header.{encodeProgram, encodeTerm}
+use Rattle.record.specs.Header.{encodeProgram, encodeTerm, okOf}
 use Rattle.record.specs.Holding.{IsProgram, ProgramIn, TermIn}
+use Rattle.record.specs.Rows.{headerOf}
 use Rattle.rules.specs.FreeVariables.{Free, allVars, noVars}
 use Rattle.rules.specs.Replaced.{references, replaced}
+use Rattle.rules.specs.Sound.{SmallValues}
 use Rattle.rules.specs.Substitution.{fromStore, substitute}
 use Rattle.rules.specs.Syntax.{Atom, Block, Term, num, tuple}
 use Rattle.rules.specs.Translation.{translate}
@@ -23,7 +26,7 @@ pub record GivesBack (h : Header) (P : Block) (out : List ℕ) (w : Wrote) : Typ
   pub holds : ProgramIn h P (w .written) (w .used)
   pub checked : checkProgram (w .written) (w .used) ≡ record { number = 0; k = h .k }
 
--- What rows 9 and 10 say, and what each call answers where rows 1 to 5 do not apply.
+-- What rows 9 and 10 say, and what each call answers where rows 1 to 5 and 15 do not apply.
 pub record CallsMean : Type 0 where
   -- ROW 9: no program translates to the term that the record holds
   pub nine : (h : Header) (t : Term) (src : List ℕ) (used : ℕ) → TermIn allVars h t src used → length src ≤ 16384
@@ -58,12 +61,20 @@ pub record CallsMean : Type 0 where
   pub roundTripBack : (h : Header) (t : Term) (src : List ℕ) (used : ℕ) (out back : List ℕ) → TermIn allVars h t src used → length src ≤ 16384 → length out ≤ 16384
       → length back ≤ 16384 → used ≤ length back → (readBackCall src used out) .number ≡ 0
       → translateCall ((readBackCall src used out) .written) ((readBackCall src used out) .used) back ≡ record { number = 0; used = used; written = padded (length back) (take used src) }
-  -- SUBSTITUTE: the term with the store substituted; no length changes
+  -- THE HEADER TRAVELS (02 C-17, "the ceiling travels through translation and read-back"): what is written has the k, the edition and the
+  -- ceiling of what was lent
+  pub travels : (src : List ℕ) (used : ℕ) (out : List ℕ) → Bytes src → (translateCall src used out) .number ≡ 0
+      → headerOf ((translateCall src used out) .written) ((translateCall src used out) .used) ≡ headerOf src used
+  pub travelsBack : (src : List ℕ) (used : ℕ) (out : List ℕ) → Bytes src → (readBackCall src used out) .number ≡ 0
+      → headerOf ((readBackCall src used out) .written) ((readBackCall src used out) .used) ≡ headerOf src used
+  -- SUBSTITUTE: the term with the store substituted, whose values are not above the ceiling; no length changes
   pub substitutes : (h : Header) (t : Term) (buf : List ℕ) (used : ℕ) (store : List ℕ) → TermIn allVars h t buf used → length buf ≤ 16384 → length store ≡ h .k
+      → SmallValues (okOf h) store
       → substituteCall buf used store
       ≡ record { number = 0; used = used; replaced = replaced (fromStore store) t; written = padded (length buf) (encodeTerm h (substitute (fromStore store) t)) }
   -- and its count in plain facts: the variable records of the term are those that it turned into numerals and those that are left
   pub replaces : (h : Header) (t : Term) (buf : List ℕ) (used : ℕ) (store : List ℕ) → TermIn allVars h t buf used → length buf ≤ 16384 → length store ≡ h .k
+      → SmallValues (okOf h) store
       → references t ≡ (substituteCall buf used store) .replaced + references (substitute (fromStore store) t)
   -- RESULT: the numerals of a finished closed term; 7 of a term with a free variable, 8 of a closed one that is not finished
   pub results : (h : Header) (values buf : List ℕ) (used : ℕ) (store : List ℕ) → TermIn noVars h (tuple (map num values)) buf used → length buf ≤ 16384 → length store ≡ h .k

@@ -6,7 +6,7 @@ use mathlib.Core.Option.{Option}
 use lib.ListN.{length}
 use Rattle.record.specs.Answers.{Stored, Wrote, padded, storedBy, tooShort, wroteBy}
 use Rattle.record.specs.Header.{encodeProgram, encodeTerm}
-use Rattle.record.specs.Rows.{Row, badBuffer, badStore, firstRow, headerOf, isNone, kOf, openTerm, orElse, programOf, programRows, row, termRows, theTermOf, tooLong, unfinished}
+use Rattle.record.specs.Rows.{Row, badBuffer, badStore, firstRow, headerOf, isNone, kOf, limitedProgramRows, limitedTermRows, openTerm, orElse, programOf, row, storeRows, theTermOf, tooLong, unfinished}
 use Rattle.rules.specs.ReadBack.{readBack}
 use Rattle.rules.specs.Reduction.{valueOf}
 use Rattle.rules.specs.Replaced.{replaced}
@@ -14,21 +14,21 @@ use Rattle.rules.specs.Substitution.{fromStore, substitute}
 use Rattle.rules.specs.Syntax.{Block, Term, empty, letAll, letOne, rec, tuple}
 use Rattle.rules.specs.Translation.{translate}
 
--- TRANSLATE: rows 1 to 5 and 10. Row 1 looks at both buffers.
+-- TRANSLATE: rows 1 to 5, 15 and 10. Row 1 looks at both buffers.
 
 -- The record that answers.
 abbrev pub translated : List ℕ → ℕ → List ℕ
 translated src used = encodeTerm (headerOf src used) (translate (kOf src used) (programOf src used))
 
--- The rows of the call, in the order of 01's table.
+-- The rows of the call, in the order of the table.
 abbrev pub translateRows : List ℕ → ℕ → List ℕ → List Row
-translateRows src used out = row 1 (badBuffer src used || tooLong out) ∷ programRows src used (row 10 (tooShort out (translated src used)) ∷ [])
+translateRows src used out = row 1 (badBuffer src used || tooLong out) ∷ limitedProgramRows src used (row 10 (tooShort out (translated src used)) ∷ [])
 
 -- THE CALL: source, used length, output buffer.
 unfoldable pub translateCall : List ℕ → ℕ → List ℕ → Wrote
 translateCall src used out = wroteBy (firstRow (translateRows src used out)) (translated src used) out
 
--- READ BACK: rows 1 to 5, 9 and 10
+-- READ BACK: rows 1 to 5, 15, 9 and 10
 
 -- The program that the term is the translation of, if there is one.
 abbrev pub sourceOf : List ℕ → ℕ → Option Block
@@ -42,16 +42,16 @@ noSource src used = isNone (sourceOf src used)
 abbrev pub sourceBytes : List ℕ → ℕ → List ℕ
 sourceBytes src used = encodeProgram (headerOf src used) (orElse empty (sourceOf src used))
 
--- The rows of the call, in the order of 01's table.
+-- The rows of the call, in the order of the table.
 abbrev pub readBackRows : List ℕ → ℕ → List ℕ → List Row
 readBackRows src used out =
-    row 1 (badBuffer src used || tooLong out) ∷ termRows src used (row 9 (noSource src used) ∷ row 10 (tooShort out (sourceBytes src used)) ∷ [])
+    row 1 (badBuffer src used || tooLong out) ∷ limitedTermRows src used (row 9 (noSource src used) ∷ row 10 (tooShort out (sourceBytes src used)) ∷ [])
 
 -- THE CALL: source, used length, output buffer.
 unfoldable pub readBackCall : List ℕ → ℕ → List ℕ → Wrote
 readBackCall src used out = wroteBy (firstRow (readBackRows src used out)) (sourceBytes src used) out
 
--- SUBSTITUTE (01's filling): rows 1 to 6, in place
+-- SUBSTITUTE (01's filling): rows 1 to 5, 15, 6 and 16, in place
 
 -- The answer, with how many variable records were turned into numerals, and the buffer that it leaves.
 pub record Substituted : Type 0 where
@@ -69,16 +69,16 @@ substitutedBy (suc m) bytes n buf = record { number = suc m; used = 0; replaced 
 abbrev pub substituted : List ℕ → ℕ → List ℕ → List ℕ
 substituted buf used store = encodeTerm (headerOf buf used) (substitute (fromStore store) (theTermOf buf used))
 
--- The rows of the call, in the order of 01's table.
+-- The rows of the call, in the order of the table.
 abbrev pub substituteRows : List ℕ → ℕ → List ℕ → List Row
-substituteRows buf used store = row 1 (badBuffer buf used) ∷ termRows buf used (row 6 (badStore buf used store) ∷ [])
+substituteRows buf used store = row 1 (badBuffer buf used) ∷ limitedTermRows buf used (storeRows buf used store [])
 
 -- THE CALL: buffer, used length, store.
 unfoldable pub substituteCall : List ℕ → ℕ → List ℕ → Substituted
 substituteCall buf used store =
     substitutedBy (firstRow (substituteRows buf used store)) (substituted buf used store) (replaced (fromStore store) (theTermOf buf used)) buf
 
--- RESULT: rows 1 to 8
+-- RESULT: rows 1 to 5, 15, and 6 to 8. The store is written and not read, so row 16 does not look at it.
 
 -- The numerals of a finished term.
 unfoldable pub numerals : Term → List ℕ
@@ -87,10 +87,10 @@ numerals (letOne x s t) = []
 numerals (letAll t u) = []
 numerals (rec x a l t) = []
 
--- The rows of the call, in the order of 01's table.
+-- The rows of the call, in the order of the table.
 abbrev pub resultRows : List ℕ → ℕ → List ℕ → List Row
 resultRows buf used store =
-    row 1 (badBuffer buf used) ∷ termRows buf used (row 6 (badStore buf used store) ∷ row 7 (openTerm buf used) ∷ row 8 (unfinished buf used) ∷ [])
+    row 1 (badBuffer buf used) ∷ limitedTermRows buf used (row 6 (badStore buf used store) ∷ row 7 (openTerm buf used) ∷ row 8 (unfinished buf used) ∷ [])
 
 -- THE CALL: buffer, used length, store.
 unfoldable pub resultCall : List ℕ → ℕ → List ℕ → Stored

@@ -1,4 +1,4 @@
-// The calls on terms. Each checks its whole input (rows 1 to 5) and then does its work in a function of its own, which asks for
+// The calls on terms. Each checks its whole record (rows 1 to 5 and 15) and then does its work in a function of its own, which asks for
 // what the check has made sure of.
 ghost use mathlib.Core.Path.{_≡_};
 ghost use Prim.Native.Nat.{_≤_};

@@ -1,6 +1,8 @@
 // The call substitute: a store's values for the free variables of a term, in place (01 "Filling").
+use checker::some_above;
 use record::Header;
 use record::refusal::BAD_STORE;
+use record::refusal::VALUE_ABOVE_CEILING;
 use substitution::substitute::substitute_record;
 use term_checker::check_term;
 ghost use mathlib.Core.Path.{_≡_};
@@ -37,6 +39,9 @@ fn substitute_checked(buf: &mut [u8], used: usize, h: Header, store: &[u32]) -> 
 {
     if store.len() != h.k as usize {
         return refuse(BAD_STORE);
+    }
+    if some_above(store, h.largest()) {
+        return refuse(VALUE_ABOVE_CEILING);
     }
     let replaced = substitute_record(buf, used, h, store);
     Substituted {

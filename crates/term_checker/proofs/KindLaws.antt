@@ -14,5 +14,5 @@ isTerm Program = false
 isTerm Expression = false
 isTerm Malformed = false
 
-pub not-term : (kind : ℕ) (c : Class) → classOf kind ≡ c → isTerm c ≡ false → (n : ℕ) → 32 ≤ n → n ≤ 40 → kind ≡ n → ⊥
+pub not-term : (kind : ℕ) (c : Class) → classOf kind ≡ c → isTerm c ≡ false → (n : ℕ) → 32 ≤ n → n ≤ 41 → kind ≡ n → ⊥
 not-term kind c q h n a b e = true-false (sym (ap isTerm (sym q ∙ ap classOf e ∙ class-term n a b)) ∙ h)

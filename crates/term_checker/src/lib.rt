@@ -5,7 +5,6 @@ ghost use mathlib.Core.Bool.{false};
 ghost use mathlib.Core.Path.{_≡_};
 ghost use lib.ListN.{length};
 ghost use Rattle.buffer.specs.Slice.{part};
-ghost use Rattle.rules.specs.Scope.{atomInRange, atomsInRange, simpleInRange};
 ghost use Rattle.record.specs.Alone.{recordKind, onlySimple, onlyTuple};
 ghost use Rattle.record.specs.Header.{termIn};
 ghost use Rattle.record.specs.Term.{decodeAtoms, onlyAtom};
@@ -13,7 +12,7 @@ ghost use Rattle.record.specs.Answers.{checkTerm};
 ghost use Rattle.record.specs.Rows.{badBuffer};
 ghost use Rattle.checker.specs.Answer.{asChecked};
 ghost use Rattle.checker.specs.Verdict.{verdict};
-ghost use Rattle.term_checker.specs.TermVerdict.{OpensTerm, termVerdict};
+ghost use Rattle.term_checker.specs.TermVerdict.{OpensTerm, atomRating, atomsRating, simpleRating, termVerdict};
 ghost use Rattle.term_checker.specs.RecordAt.{recordAt};
 use buffer::get_u32;
 use checker::Checked;
@@ -21,6 +20,7 @@ use checker::Verdict;
 use checker::answer;
 use checker::bad_buffer;
 use checker::check_header;
+use checker::check_value;
 use checker::check_variable;
 use checker::number_of;
 use checker::worst;
@@ -47,8 +47,8 @@ pub enum Opened {
 }
 
 // The atom at a place. Its kind tells it from every other record, so the class is not asked.
-fn check_atom(s: &[u8], at: usize, k: u32) -> Verdict
-    ensures { λ r. ⌜ r ≡ verdict (atomInRange k) (onlyAtom (recordAt (now (s .entry)) at)) ⌝ }
+fn check_atom(s: &[u8], at: usize, k: u32, largest: u32) -> Verdict
+    ensures { λ r. ⌜ r ≡ verdict (atomRating k largest) (onlyAtom (recordAt (now (s .entry)) at)) ⌝ }
 {
     match reader::head_at(s, at) {
         Head::Record(length, kind) => {
@@ -56,7 +56,7 @@ fn check_atom(s: &[u8], at: usize, k: u32) -> Verdict
                 return Verdict::Malformed;
             }
             match kind {
-                NUMERAL => Verdict::Good,
+                NUMERAL => check_value(get_u32(s, at + 4), largest),
                 REFERENCE => check_variable(get_u32(s, at + 4), k),
                 _ => Verdict::Malformed,
             }
@@ -68,9 +68,9 @@ fn check_atom(s: &[u8], at: usize, k: u32) -> Verdict
 
 // The contents of a tuple: the atoms from a place up to an end. The length is that of k atoms. Behind an atom that is malformed
 // the reader may stand anywhere, so the walk ends there.
-fn check_atoms(s: &[u8], at: usize, end: usize, k: u32) -> Verdict
+fn check_atoms(s: &[u8], at: usize, end: usize, k: u32, largest: u32) -> Verdict
     requires { ⌜ (at ≤ end) × (end ≤ length (now s)) ⌝ }
-    ensures { λ r. ⌜ r ≡ verdict (atomsInRange k) (decodeAtoms k (part (now (s .entry)) at (end - at))) ⌝ }
+    ensures { λ r. ⌜ r ≡ verdict (atomsRating k largest) (decodeAtoms k (part (now (s .entry)) at (end - at))) ⌝ }
 {
     if end - at != 8 * (k as usize) {
         return Verdict::Malformed;
@@ -78,8 +78,11 @@ fn check_atoms(s: &[u8], at: usize, end: usize, k: u32) -> Verdict
     let mut found = Verdict::Good;
     let mut place = at;
     while place < end {
-        match check_atom(s, place, k) {
+        match check_atom(s, place, k, largest) {
             Verdict::Good => {}
+            Verdict::Above => {
+                found = worst(found, Verdict::Above);
+            }
             Verdict::Outside => {
                 found = worst(found, Verdict::Outside);
             }
@@ -93,15 +96,15 @@ fn check_atoms(s: &[u8], at: usize, end: usize, k: u32) -> Verdict
 }
 
 // The tuple at a place.
-fn check_tuple(s: &[u8], at: usize, k: u32) -> Verdict
-    ensures { λ r. ⌜ r ≡ verdict (atomsInRange k) (onlyTuple k (recordAt (now (s .entry)) at)) ⌝ }
+fn check_tuple(s: &[u8], at: usize, k: u32, largest: u32) -> Verdict
+    ensures { λ r. ⌜ r ≡ verdict (atomsRating k largest) (onlyTuple k (recordAt (now (s .entry)) at)) ⌝ }
 {
     match reader::head_at(s, at) {
         Head::Record(_, kind) => {
             if kind != TUPLE {
                 return Verdict::Malformed;
             }
-            check_atoms(s, at + 4, reader::after(s, at), k)
+            check_atoms(s, at + 4, reader::after(s, at), k, largest)
         }
         Head::End => Verdict::Malformed,
         Head::Short => Verdict::Malformed,
@@ -109,8 +112,8 @@ fn check_tuple(s: &[u8], at: usize, k: u32) -> Verdict
 }
 
 // What a let-one binds, at a place. The atom inside a succ or pred ends where that ends.
-fn check_simple(s: &[u8], at: usize, k: u32) -> Verdict
-    ensures { λ r. ⌜ r ≡ verdict (simpleInRange k) (onlySimple (recordAt (now (s .entry)) at)) ⌝ }
+fn check_simple(s: &[u8], at: usize, k: u32, largest: u32) -> Verdict
+    ensures { λ r. ⌜ r ≡ verdict (simpleRating k largest) (onlySimple (recordAt (now (s .entry)) at)) ⌝ }
 {
     match reader::head_at(s, at) {
         Head::Record(_, kind) => match kind {
@@ -118,9 +121,9 @@ fn check_simple(s: &[u8], at: usize, k: u32) -> Verdict
                 if reader::after(s, at + 4) != reader::after(s, at) {
                     return Verdict::Malformed;
                 }
-                check_atom(s, at + 4, k)
+                check_atom(s, at + 4, k, largest)
             }
-            _ => check_atom(s, at, k),
+            _ => check_atom(s, at, k, largest),
         },
         Head::End => Verdict::Malformed,
         Head::Short => Verdict::Malformed,
@@ -128,30 +131,33 @@ fn check_simple(s: &[u8], at: usize, k: u32) -> Verdict
 }
 
 // Where nothing stands behind the variable the reader does not go on.
-fn open_let_one(s: &[u8], k: u32) -> Opened
+fn open_let_one(s: &[u8], k: u32, largest: u32) -> Opened
     requires { ⌜ recordKind (now s) ≡ 37 ⌝ }
-    ensures { λ r. ⌜ OpensTerm k (now (s .entry)) r ⌝ }
+    ensures { λ r. ⌜ OpensTerm k largest (now (s .entry)) r ⌝ }
 {
     let last = reader::after(s, 8);
     if last == 8 {
         return Opened::Whole(Verdict::Malformed);
     }
-    let bound = worst(check_variable(get_u32(s, 4), k), check_simple(s, 8, k));
+    let bound = worst(
+        check_variable(get_u32(s, 4), k),
+        check_simple(s, 8, k, largest),
+    );
     Opened::Last(bound, last)
 }
 
 // Where no record stands first, the first term is no bytes at all, and so malformed.
-fn open_let_all(s: &[u8], k: u32) -> Opened
+fn open_let_all(s: &[u8], k: u32, largest: u32) -> Opened
     requires { ⌜ recordKind (now s) ≡ 38 ⌝ }
-    ensures { λ r. ⌜ OpensTerm k (now (s .entry)) r ⌝ }
+    ensures { λ r. ⌜ OpensTerm k largest (now (s .entry)) r ⌝ }
 {
     Opened::Two(reader::after(s, 4))
 }
 
 // Behind the variable stands an atom, of 8 bytes, and behind that a tuple.
-fn open_rec(s: &[u8], k: u32) -> Opened
+fn open_rec(s: &[u8], k: u32, largest: u32) -> Opened
     requires { ⌜ recordKind (now s) ≡ 39 ⌝ }
-    ensures { λ r. ⌜ OpensTerm k (now (s .entry)) r ⌝ }
+    ensures { λ r. ⌜ OpensTerm k largest (now (s .entry)) r ⌝ }
 {
     let start = reader::after(s, 8);
     if start != 16 {
@@ -161,21 +167,24 @@ fn open_rec(s: &[u8], k: u32) -> Opened
     if last == start {
         return Opened::Whole(Verdict::Malformed);
     }
-    let count = worst(check_variable(get_u32(s, 4), k), check_atom(s, 8, k));
-    Opened::Last(worst(count, check_tuple(s, start, k)), last)
+    let count = worst(
+        check_variable(get_u32(s, 4), k),
+        check_atom(s, 8, k, largest),
+    );
+    Opened::Last(worst(count, check_tuple(s, start, k, largest)), last)
 }
 
 // The class decides, then the kind: any record of a term may stand here.
-fn open_kind(s: &[u8], kind: usize, k: u32) -> Opened
+fn open_kind(s: &[u8], kind: usize, k: u32, largest: u32) -> Opened
     requires { ⌜ recordKind (now s) ≡ kind ⌝ }
-    ensures { λ r. ⌜ OpensTerm k (now (s .entry)) r ⌝ }
+    ensures { λ r. ⌜ OpensTerm k largest (now (s .entry)) r ⌝ }
 {
     match record::class_of(kind) {
         record::Class::Term => match kind {
-            TUPLE => Opened::Whole(check_tuple(s, 0, k)),
-            LET_ONE => open_let_one(s, k),
-            LET_ALL => open_let_all(s, k),
-            REC => open_rec(s, k),
+            TUPLE => Opened::Whole(check_tuple(s, 0, k, largest)),
+            LET_ONE => open_let_one(s, k, largest),
+            LET_ALL => open_let_all(s, k, largest),
+            REC => open_rec(s, k, largest),
             _ => Opened::Whole(Verdict::Malformed),
         },
         record::Class::Program => Opened::Whole(Verdict::Malformed),
@@ -185,15 +194,15 @@ fn open_kind(s: &[u8], kind: usize, k: u32) -> Opened
 }
 
 // A term is one record, and nothing after it.
-fn open_term(s: &[u8], k: u32) -> Opened
-    ensures { λ r. ⌜ OpensTerm k (now (s .entry)) r ⌝ }
+fn open_term(s: &[u8], k: u32, largest: u32) -> Opened
+    ensures { λ r. ⌜ OpensTerm k largest (now (s .entry)) r ⌝ }
 {
     match reader::head_at(s, 0) {
         Head::Record(length, kind) => {
             if length != s.len() {
                 return Opened::Whole(Verdict::Malformed);
             }
-            open_kind(s, kind, k)
+            open_kind(s, kind, k, largest)
         }
         Head::End => Opened::Whole(Verdict::Malformed),
         Head::Short => Opened::Whole(Verdict::Malformed),
@@ -202,13 +211,13 @@ fn open_term(s: &[u8], k: u32) -> Opened
 
 // Of a let-all's two terms the shorter is checked by a call and the longer by the next turn, so the calls nest no deeper
 // than the logarithm of the length.
-fn check_term_contents(s: &[u8], k: u32) -> Verdict
-    ensures { λ r. ⌜ r ≡ termVerdict k (termIn k (now (s .entry))) ⌝ }
+fn check_term_contents(s: &[u8], k: u32, largest: u32) -> Verdict
+    ensures { λ r. ⌜ r ≡ termVerdict k largest (termIn k (now (s .entry))) ⌝ }
 {
     let mut found = Verdict::Good;
     let mut left = s;
     loop {
-        let opened = open_term(left, k);
+        let opened = open_term(left, k, largest);
         match opened {
             Opened::Whole(v) => return worst(found, v),
             Opened::Last(v, last) => {
@@ -217,10 +226,10 @@ fn check_term_contents(s: &[u8], k: u32) -> Verdict
             }
             Opened::Two(second) => {
                 if second - 4 <= left.len() - second {
-                    found = worst(found, check_term_contents(&left[4..second], k));
+                    found = worst(found, check_term_contents(&left[4..second], k, largest));
                     left = &left[second..];
                 } else {
-                    found = worst(found, check_term_contents(&left[second..], k));
+                    found = worst(found, check_term_contents(&left[second..], k, largest));
                     left = &left[4..second];
                 }
             }
@@ -228,7 +237,7 @@ fn check_term_contents(s: &[u8], k: u32) -> Verdict
     }
 }
 
-// Rows 2 to 5, of a buffer that row 1 lets through.
+// Rows 2 to 5 and 15, of a buffer that row 1 lets through.
 pub fn check_record(buf: &[u8], used: usize) -> Checked
     requires { ⌜ badBuffer (now buf) used ≡ false ⌝ }
     ensures { λ r. ⌜ asChecked r ≡ checkTerm (now (buf .entry)) used ⌝ }
@@ -239,7 +248,10 @@ pub fn check_record(buf: &[u8], used: usize) -> Checked
     }
     let h = record::read_header(buf);
     let start = h.contents_at();
-    answer(number_of(check_term_contents(&buf[start..used], h.k)), h.k)
+    answer(
+        number_of(check_term_contents(&buf[start..used], h.k, h.largest())),
+        h.k,
+    )
 }
 
 pub fn check_term(buf: &[u8], used: usize) -> Checked

@@ -1,6 +1,6 @@
 use std::hint::black_box;
 
-use super::row;
+use super::{row, CEILING};
 use crate::plain;
 use other::calls;
 use other::codec::Record;
@@ -16,6 +16,8 @@ pub fn print() {
     let long = [7, 200, 0, 0];
     run("ADD on 7, 3: 1 of 18 steps", &add(), &p1, 1, 100_000);
     run("ADD on 7, 3: 64 of 18 steps", &add(), &p1, 64, 100_000);
+    let second = add().under(CEILING);
+    run("ADD on 7, 3: 64, edition 2", &second, &p1, 64, 100_000);
     run("ADD on 7, 200: 64 of 1,003", &add(), &long, 64, 100_000);
     let wide = row_of_blocks(16, 119);
     run("k = 16: 64 of 119 steps", &wide, &[5; 16], 64, 100_000);

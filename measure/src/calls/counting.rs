@@ -1,6 +1,6 @@
 use std::hint::black_box;
 
-use super::row;
+use super::{row, CEILING};
 use crate::plain;
 use other::calls;
 use other::codec::Record;
@@ -19,7 +19,17 @@ const START: Words = [0; STATE_WORDS];
 pub fn print() {
     let runs = [
         ("ADD on 7, 3: 18 steps", add(), vec![7, 3, 0, 0]),
+        (
+            "ADD on 7, 3, edition 2",
+            add().under(CEILING),
+            vec![7, 3, 0, 0],
+        ),
         ("ADD on 7, 3500: 17,503 steps", add(), vec![7, 3_500, 0, 0]),
+        (
+            "ADD on 7, 3500, edition 2",
+            add().under(CEILING),
+            vec![7, 3_500, 0, 0],
+        ),
         ("minus one: 17,503 steps", subtract(), vec![7, 3_500, 0, 0]),
         (
             "4 loops of 9: 23,780 steps",
@@ -101,7 +111,7 @@ fn expand(on: &str, program: &Program, state: &Words) {
     let record = program.encode();
     let (buf, used) = (lend(&record, 16_384), record.len());
     let (buf, state) = (|| black_box(&buf[..]), || black_box(state));
-    let store = vec![3; program.k as usize];
+    let store = vec![3; program.header.k as usize];
     let [mut out, mut other_out, mut plain_out] = [(); 3].map(|()| vec![0; 16_384]);
     row(
         "expand",

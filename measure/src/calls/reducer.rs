@@ -1,11 +1,10 @@
 use std::hint::black_box;
 
-use super::row;
+use super::{lent_with_copies, row, CEILING};
 use crate::plain;
 use other::calls;
 use other::codec::Record;
 use other::examples::{add, nest_of_blocks, nest_of_loops, row_of_assignments, subtract};
-use other::generate::lend;
 use other::library;
 use other::run::stepper::Config;
 
@@ -13,7 +12,17 @@ use other::run::stepper::Config;
 pub fn print() {
     let runs = [
         ("ADD on 7, 3: 18 steps", add(), vec![7, 3, 0, 0]),
+        (
+            "ADD on 7, 3, edition 2",
+            add().under(CEILING),
+            vec![7, 3, 0, 0],
+        ),
         ("ADD on 7, 200: 1,003 steps", add(), vec![7, 200, 0, 0]),
+        (
+            "ADD on 7, 200, edition 2",
+            add().under(CEILING),
+            vec![7, 200, 0, 0],
+        ),
         (
             "with minus one: 1,003 steps",
             subtract(),
@@ -41,8 +50,8 @@ pub fn print() {
 }
 
 fn run(on: &str, record: &[u8]) {
-    let (fresh, used) = (lend(record, 16_384), record.len());
-    let mut copies = [(); 3].map(|()| fresh.clone());
+    let used = record.len();
+    let (fresh, mut copies) = lent_with_copies(record);
     let [one, two, three] = &mut copies;
     row(
         "run_reducer",

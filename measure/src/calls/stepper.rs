@@ -1,11 +1,10 @@
 use std::hint::black_box;
 
-use super::row;
+use super::{lent_with_copies, row, CEILING};
 use crate::plain;
 use other::calls;
 use other::codec::Record;
 use other::examples::{add, nest_of_blocks, nest_of_loops, row_of_assignments, subtract};
-use other::generate::lend;
 use other::library;
 
 /// Runs to the end: ADD on 7, 3 takes 18 steps; on 7, 400 it has states of up to 14 KB, and so it has
@@ -14,7 +13,17 @@ use other::library;
 pub fn print() {
     let runs = [
         ("ADD on 7, 3: 18 steps", add(), vec![7, 3, 0, 0]),
+        (
+            "ADD on 7, 3, edition 2",
+            add().under(CEILING),
+            vec![7, 3, 0, 0],
+        ),
         ("ADD on 7, 400: 2,003 steps", add(), vec![7, 400, 0, 0]),
+        (
+            "ADD on 7, 400, edition 2",
+            add().under(CEILING),
+            vec![7, 400, 0, 0],
+        ),
         (
             "with minus one: 2,003 steps",
             subtract(),
@@ -42,8 +51,9 @@ pub fn print() {
 }
 
 fn run(on: &str, record: &[u8], store: &[u32]) {
-    let (fresh, used) = (lend(record, 16_384), record.len());
-    let mut copies = [(); 3].map(|()| (fresh.clone(), store.to_vec()));
+    let used = record.len();
+    let (fresh, copies) = lent_with_copies(record);
+    let mut copies = copies.map(|copy| (copy, store.to_vec()));
     let [one, two, three] = &mut copies;
     row(
         "run_stepper",

@@ -1,24 +1,34 @@
 use std::hint::black_box;
 
-use super::row;
+use super::{lent_with_copies, row, CEILING};
 use crate::plain;
 use other::calls;
 use other::codec::Record;
 use other::examples::add;
-use other::extremes;
+use other::extremes::{self, Records};
 use other::generate::lend;
 use other::library;
 use other::translate::translate as translation;
+use other::tree::Edition;
 
 pub fn print() {
-    let mut programs = vec![("ADD, 64 bytes", add().encode())];
-    let translatable = extremes::translatable().into_iter();
-    programs.extend(translatable.map(|(on, program)| (on, program.encode())));
+    let second = add().under(CEILING);
+    let mut programs: Records = vec![
+        ("ADD, 64 bytes".into(), add().encode()),
+        ("ADD, edition 2".into(), second.encode()),
+    ];
+    programs.extend(encoded(extremes::translatable(Edition::First)));
     for (on, record) in programs {
-        translate(on, &record);
+        translate(&on, &record);
     }
-    let mut terms = vec![("ADD's term, 172 bytes", translation(&add()).encode())];
-    terms.extend(extremes::term_records());
+    let mut terms: Records = vec![
+        ("ADD's term, 172 bytes".into(), translation(&add()).encode()),
+        (
+            "ADD's term, edition 2".into(),
+            translation(&second).encode(),
+        ),
+    ];
+    terms.extend(encoded(extremes::terms(Edition::First)));
     for (on, record) in &terms {
         read_back(on, record);
     }
@@ -26,8 +36,13 @@ pub fn print() {
         substitute(on, record);
     }
     for (on, record) in extremes::finished_record() {
-        result(on, &record);
+        result(&on, &record);
     }
+}
+
+fn encoded<R: Record>(records: Vec<(String, R)>) -> Records {
+    let one = |(on, record): (String, R)| (on, record.encode());
+    records.into_iter().map(one).collect()
 }
 
 fn translate(on: &str, record: &[u8]) {
@@ -71,9 +86,9 @@ fn read_back(on: &str, record: &[u8]) {
 }
 
 fn substitute(on: &str, record: &[u8]) {
-    let (fresh, used) = (lend(record, 16_384), record.len());
+    let used = record.len();
+    let (fresh, mut copies) = lent_with_copies(record);
     let store = vec![3; usize::from(record[4])];
-    let mut copies = [(); 3].map(|()| fresh.clone());
     let [one, two, three] = &mut copies;
     row(
         "substitute",

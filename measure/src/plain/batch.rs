@@ -1,9 +1,9 @@
 //! A batch: one check, one translation, and for each job a copy of the term, in which it runs. What a
 //! run leaves is not cleared before the next, only at the end.
 
-use super::reducer::{reduce, TERM};
+use super::reducer::reduce;
 use super::substitute::{fill, values_of};
-use super::{check, translate, word, State};
+use super::{check, translate, word, Header, State};
 use other::calls::Written;
 use other::check::Refusal;
 use other::run::Outcome;
@@ -33,15 +33,25 @@ pub fn run_batch(
     if values.len() != jobs * k || answers.len() != jobs * (k + 2) {
         return Written::refused(Refusal::BadStore);
     }
-    let size = translate::size(&program[..used], checked.k);
+    let header = Header::of(program);
+    if let Err(refusal) = header.takes_values(values) {
+        return Written::refused(refusal);
+    }
+    let size = translate::size(&program[..used], header);
     if size > term.len().min(work.len()) {
         return Written::refused(Refusal::OutputTooShort);
     }
-    translate::write(&program[..used], checked.k, size, term);
+    translate::write(&program[..used], header, size, term);
     let jobs = budgets.iter().zip(values.chunks_exact(k));
     for ((budget, store), answer) in jobs.zip(answers.chunks_exact_mut(k + 2)) {
         work[..size].copy_from_slice(&term[..size]);
-        run_job(work, size, store, *budget, answer);
+        let buf = &mut *work;
+        let mut state = State {
+            buf,
+            header,
+            used: size,
+        };
+        run_job(&mut state, store, *budget, answer);
     }
     work.fill(0);
     Written {
@@ -50,16 +60,16 @@ pub fn run_batch(
     }
 }
 
-fn run_job(work: &mut [u8], used: usize, store: &[u32], budget: u32, answer: &mut [u32]) {
-    fill(work, TERM, values_of(store));
-    let mut state = State { buf: work, used };
-    let ((outcome, steps), _) = reduce(&mut state, budget);
+fn run_job(state: &mut State, store: &[u32], budget: u32, answer: &mut [u32]) {
+    let term = state.header.contents;
+    fill(state.buf, term, values_of(store));
+    let ((outcome, steps), _) = reduce(state, budget);
     (answer[0], answer[1]) = (outcome.number(), steps);
     let end = &mut answer[2..];
     if outcome != Outcome::Finished {
         return end.fill(0);
     }
     for (i, value) in end.iter_mut().enumerate() {
-        *value = word(work, TERM + 8 + 8 * i);
+        *value = word(state.buf, term + 8 + 8 * i);
     }
 }

@@ -1,14 +1,12 @@
 //! The stepper with counts, on the program's bytes and the 189 words. The innermost block's place and
 //! end are kept at hand, and a step touches the innermost entry alone.
 
-use super::{half, word};
+use super::check::{sound_program, Sound};
+use super::{half, word, Header};
 use other::calls::Counted;
 use other::check::Refusal;
 use other::run::counting::words::Words;
 use other::run::Outcome;
-
-/// Where the outermost block's first command stands in a record.
-pub const COMMANDS: usize = 12;
 
 /// The entries: how many fit, and what each of its words is.
 const ENTRIES: usize = 31;
@@ -34,28 +32,44 @@ pub fn run_counting(
     store: &mut [u32],
     budget: u32,
 ) -> Counted {
-    let open = match entries(program, used, state, store.len()) {
-        Ok(open) => open,
-        Err(number) => return Counted::refused(number),
+    let (header, open) = match entries(program, used, state, store) {
+        Ok(entries) => entries,
+        Err(refusal) => return Counted::refused(refusal),
     };
     tidy(state, open);
-    Counting::at(&program[COMMANDS..used], state, store, open).run(budget)
+    let code = &program[header.contents + 4..used];
+    Counting::at(code, state, store, open, header.ceiling).run(budget)
 }
 
-/// Rows 1–5, 12, 6, 13: how many entries the state has, or the number of the refusal.
-pub fn entries(program: &[u8], used: usize, state: &Words, values: usize) -> Result<usize, u32> {
-    let checked = super::check::check_program(program, used);
-    if checked.number != 0 {
-        return Err(checked.number);
-    }
-    let code = &program[COMMANDS..used];
+/// Rows 1–5, 12, 15, 6, 13, 16: the header and how many entries the state has, or the refusal.
+pub fn entries(
+    program: &[u8],
+    used: usize,
+    state: &Words,
+    store: &[u32],
+) -> Result<(Header, usize), Refusal> {
+    let Sound { header, above } = sound_program(program, used)?;
+    let code = &program[header.contents + 4..used];
     if depth(code) > 32 {
-        return Err(Refusal::TooDeep.number());
+        return Err(Refusal::TooDeep);
     }
-    if values != checked.k as usize {
-        return Err(Refusal::BadStore.number());
+    if above {
+        return Err(Refusal::LiteralAboveCeiling);
     }
-    held(code, state).ok_or(Refusal::BadState.number())
+    if store.len() != header.k as usize {
+        return Err(Refusal::BadStore);
+    }
+    let open = held(code, state).ok_or(Refusal::BadState)?;
+    header.takes_values(store)?;
+    if state[1] != 0 {
+        header.takes_values(&state[2..3])?;
+    }
+    for words in (0..open).map(entry) {
+        if state[words + WHAT] == LOOP {
+            header.takes_values(&state[words + TOP..words + TOP + 1])?;
+        }
+    }
+    Ok((header, open))
 }
 
 /// How deep commands are nested; the block around them counts.
@@ -143,6 +157,7 @@ struct Counting<'a> {
     code: &'a [u8],
     state: &'a mut Words,
     store: &'a mut [u32],
+    ceiling: u32,
     open: usize,
     /// The innermost entry is a loop that is at no place in its body; else the innermost block is at
     /// this place, and ends there.
@@ -158,11 +173,18 @@ enum Ahead {
 }
 
 impl<'a> Counting<'a> {
-    fn at(code: &'a [u8], state: &'a mut Words, store: &'a mut [u32], open: usize) -> Counting<'a> {
+    fn at(
+        code: &'a [u8],
+        state: &'a mut Words,
+        store: &'a mut [u32],
+        open: usize,
+        ceiling: u32,
+    ) -> Counting<'a> {
         let mut counting = Counting {
             code,
             state,
             store,
+            ceiling,
             open,
             shut: false,
             place: 0,
@@ -242,7 +264,7 @@ impl<'a> Counting<'a> {
     fn is_over(&self, at: usize) -> bool {
         half(self.code, at + 2) == 2
             && half(self.code, at + 10) == 18
-            && self.value(at + 12) == u32::MAX
+            && self.value(at + 12) >= self.ceiling
     }
 
     fn ahead(&self) -> Ahead {
@@ -356,10 +378,13 @@ impl<'a> Counting<'a> {
         let sum = match half(self.code, at + 10) {
             16 => return self.assigned(at, word(self.code, at + 12)),
             17 => return self.assigned(at, self.value(at + 12)),
-            18 => match self.value(at + 12).checked_add(1) {
-                None => return Ahead::Over,
-                Some(sum) => sum,
-            },
+            18 => {
+                let value = self.value(at + 12);
+                if value >= self.ceiling {
+                    return Ahead::Over;
+                }
+                value + 1
+            }
             _ => self.value(at + 12).saturating_sub(1),
         };
         (self.state[1], self.state[2]) = (1, sum);

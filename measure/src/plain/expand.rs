@@ -1,7 +1,7 @@
 //! The expansion of a counting state, front to back: the heads of the turns that are to come, what they
 //! stand around, then the index and the body of each.
 
-use super::counting::{entries, entry, BLOCK, COMMANDS, PROGRESS, REACHED, RUNNING, TOP, WHAT};
+use super::counting::{entries, entry, BLOCK, PROGRESS, REACHED, RUNNING, TOP, WHAT};
 use super::{half, put_half, put_head, put_leaf, put_word};
 use other::calls::Written;
 use other::check::Refusal;
@@ -17,21 +17,22 @@ pub fn expand(
     if out.len() > 16_384 {
         return Written::refused(Refusal::BadBuffer);
     }
-    let open = match entries(program, used, state, store.len()) {
-        Ok(open) => open,
-        Err(number) => return Written::refused(number),
+    let (header, open) = match entries(program, used, state, store) {
+        Ok(entries) => entries,
+        Err(refusal) => return Written::refused(refusal),
     };
-    let code = &program[COMMANDS..used];
+    let (contents, commands) = (header.contents, header.contents + 4);
+    let code = &program[commands..used];
     let from = Expanding { code, state, open };
-    let length = COMMANDS as u64 + from.length(0, state[0] as usize, code.len());
+    let length = commands as u64 + from.length(0, state[0] as usize, code.len());
     if length > out.len() as u64 {
         return Written::refused(Refusal::OutputTooShort);
     }
     let length = length as usize;
-    out[..8].copy_from_slice(&program[..8]);
+    out[..contents].copy_from_slice(&program[..contents]);
     put_half(out, 0, length);
-    put_head(out, 8, length - 8, 1);
-    from.write(0, state[0] as usize, code.len(), &mut out[COMMANDS..length]);
+    put_head(out, contents, length - contents, 1);
+    from.write(0, state[0] as usize, code.len(), &mut out[commands..length]);
     out[length..].fill(0);
     Written {
         number: 0,

@@ -1,6 +1,6 @@
 //! Read-back: recognised and measured in one pass, then written, with recursion for the terms inside.
 
-use super::{half, put_head, put_leaf, put_word, word};
+use super::{half, put_head, put_leaf, put_word, word, Header};
 use other::calls::Written;
 use other::check::Refusal;
 
@@ -12,17 +12,19 @@ pub fn read_back(src: &[u8], used: usize, out: &mut [u8]) -> Written {
     if checked.number != 0 {
         return Written::refused(checked.number);
     }
-    let Some(commands) = commands_size(src, 8, checked.k) else {
+    let Header { k, contents, .. } = Header::of(src);
+    let Some(commands) = commands_size(src, contents, k) else {
         return Written::refused(Refusal::NoProgram);
     };
-    let size = 12 + commands;
+    let size = contents + 4 + commands;
     if size > out.len() {
         return Written::refused(Refusal::OutputTooShort);
     }
-    put_head(out, 0, size, 7);
-    put_word(out, 4, checked.k);
-    put_head(out, 8, size - 8, 1);
-    write(src, 8, checked.k, out, 12);
+    out[..contents].copy_from_slice(&src[..contents]);
+    let kind = if half(src, 2) == 40 { 7 } else { 9 };
+    put_head(out, 0, size, kind);
+    put_head(out, contents, size - contents, 1);
+    write(src, contents, k, out, contents + 4);
     out[size..].fill(0);
     Written {
         number: 0,

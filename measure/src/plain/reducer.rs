@@ -2,22 +2,21 @@
 //! whose lengths a reduction changes follow each other.
 
 use super::substitute::{closed, fill, Values};
-use super::{half, put_half, put_head, put_leaf, put_word, run, word, Ahead, State};
+use super::{half, put_half, put_head, put_leaf, put_word, run, word, Ahead, Header, State};
 use other::calls::Reduced;
 use other::check::Refusal;
 use other::run::Outcome;
-
-pub(super) const TERM: usize = 8;
 
 pub fn run_reducer(buf: &mut [u8], used: usize, budget: u32) -> Reduced {
     let checked = super::check::check_term(buf, used);
     if checked.number != 0 {
         return Reduced::refused(checked.number);
     }
-    if !closed(buf, TERM) {
+    let header = Header::of(buf);
+    if !closed(buf, header.contents) {
         return Reduced::refused(Refusal::FreeVariable);
     }
-    let mut state = State { buf, used };
+    let mut state = State { buf, header, used };
     let (end, replaced) = reduce(&mut state, budget);
     let ran = state.end(end, budget);
     Reduced { ran, replaced }
@@ -26,17 +25,15 @@ pub fn run_reducer(buf: &mut [u8], used: usize, budget: u32) -> Reduced {
 /// The run of a closed term, and how many variables it replaced.
 pub(super) fn reduce(state: &mut State, budget: u32) -> ((Outcome, u32), u64) {
     let mut replaced = 0;
-    let end = run(
-        state,
-        budget,
-        |state| ahead(state.buf),
-        |state, at, narrow, wide| replaced += u64::from(perform(state, at, narrow, wide)),
-    );
+    let end = run(state, budget, ahead, |state, at, narrow, wide| {
+        replaced += u64::from(perform(state, at, narrow, wide))
+    });
     (end, replaced)
 }
 
-fn ahead(buf: &[u8]) -> Ahead {
-    let mut at = TERM;
+fn ahead(state: &State) -> Ahead {
+    let (buf, header) = (&*state.buf, state.header);
+    let mut at = header.contents;
     while half(buf, at + 2) == 38 && half(buf, at + 6) != 36 {
         at += 4;
     }
@@ -45,7 +42,7 @@ fn ahead(buf: &[u8]) -> Ahead {
         36 => return Ahead::Finished,
         37 => match half(buf, at + 10) {
             32 => narrow - 16,
-            34 if word(buf, at + 16) == u32::MAX => return Ahead::Over,
+            34 if word(buf, at + 16) >= header.ceiling => return Ahead::Over,
             _ => narrow - 4,
         },
         38 => narrow - 4 - half(buf, at + 4),

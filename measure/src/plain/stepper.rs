@@ -1,27 +1,25 @@
 //! The stepper in place. A block that stands first starts right behind the head of the one around
 //! it, so all heads whose lengths a step changes follow each other.
 
-use super::{half, put_head, put_leaf, put_word, run, word, Ahead, State};
+use super::{half, put_head, put_leaf, put_word, run, word, Ahead, Header, State};
 use other::calls::Ran;
-use other::check::Refusal;
-
-const OUTERMOST: usize = 8;
 
 pub fn run_stepper(buf: &mut [u8], used: usize, store: &mut [u32], budget: u32) -> Ran {
     let checked = super::check::check_program(buf, used);
     if checked.number != 0 {
         return Ran::refused(checked.number);
     }
-    if store.len() != checked.k as usize {
-        return Ran::refused(Refusal::BadStore);
+    let header = Header::of(buf);
+    if let Err(refusal) = header.takes(store) {
+        return Ran::refused(refusal);
     }
     // Both closures read the store and one writes it, so it is handed about in a cell.
     let store = std::cell::RefCell::new(store);
-    let mut state = State { buf, used };
+    let mut state = State { buf, header, used };
     let end = run(
         &mut state,
         budget,
-        |state| ahead(state.buf, &store.borrow()),
+        |state| ahead(state, &store.borrow()),
         |state, at, narrow, wide| perform(state, at, narrow, wide, &mut store.borrow_mut()),
     );
     state.end(end, budget)
@@ -40,11 +38,12 @@ fn bound(buf: &[u8], at: usize, store: &[u32]) -> u32 {
     }
 }
 
-fn ahead(buf: &[u8], store: &[u32]) -> Ahead {
-    if half(buf, OUTERMOST) == 4 {
+fn ahead(state: &State, store: &[u32]) -> Ahead {
+    let (buf, header) = (&*state.buf, state.header);
+    if half(buf, header.contents) == 4 {
         return Ahead::Finished;
     }
-    let mut at = OUTERMOST + 4;
+    let mut at = header.contents + 4;
     while half(buf, at + 2) == 1 && half(buf, at) > 4 {
         at += 4;
     }
@@ -53,7 +52,7 @@ fn ahead(buf: &[u8], store: &[u32]) -> Ahead {
         1 => 0,
         2 => match half(buf, at + 10) {
             16 | 17 => 0,
-            18 if value(store, word(buf, at + 12)) == u32::MAX => return Ahead::Over,
+            18 if value(store, word(buf, at + 12)) >= header.ceiling => return Ahead::Over,
             _ => narrow,
         },
         _ if bound(buf, at, store) == 0 => 4,

@@ -1,7 +1,7 @@
 //! The two calls that write a store: result and weigh.
 
 use super::substitute::closed;
-use super::{half, word};
+use super::{half, word, Header};
 use other::check::Refusal;
 
 pub fn result(buf: &[u8], used: usize, store: &mut [u32]) -> u32 {
@@ -12,14 +12,15 @@ pub fn result(buf: &[u8], used: usize, store: &mut [u32]) -> u32 {
     if store.len() != checked.k as usize {
         return Refusal::BadStore.number();
     }
-    if !closed(buf, 8) {
+    let term = Header::of(buf).contents;
+    if !closed(buf, term) {
         return Refusal::FreeVariable.number();
     }
-    if half(buf, 10) != 36 {
+    if half(buf, term + 2) != 36 {
         return Refusal::Unfinished.number();
     }
     for (i, value) in store.iter_mut().enumerate() {
-        *value = word(buf, 16 + 8 * i);
+        *value = word(buf, term + 8 + 8 * i);
     }
     0
 }

@@ -1,8 +1,7 @@
 //! Substitution along the one path on which a variable can be free, and the test for one.
 
-use super::{half, put_head, put_word, word};
+use super::{half, put_head, put_word, word, Header};
 use other::calls::Substituted;
-use other::check::Refusal;
 
 /// The value of each variable, its number the index; none for one that stays.
 pub type Values = [Option<u32>; 17];
@@ -12,10 +11,11 @@ pub fn substitute(buf: &mut [u8], used: usize, store: &[u32]) -> Substituted {
     if checked.number != 0 {
         return Substituted::refused(checked.number);
     }
-    if store.len() != checked.k as usize {
-        return Substituted::refused(Refusal::BadStore);
+    let header = Header::of(buf);
+    if let Err(refusal) = header.takes(store) {
+        return Substituted::refused(refusal);
     }
-    let replaced = fill(buf, 8, values_of(store));
+    let replaced = fill(buf, header.contents, values_of(store));
     buf[used..].fill(0);
     Substituted {
         number: 0,

@@ -1,6 +1,7 @@
-//! The translation: measured, then written, with recursion for the rows inside.
+//! The translation: measured, then written, with recursion for the rows inside. Behind its kind
+//! the term's header is the program's.
 
-use super::{half, put_all, put_half, put_head, put_leaf, put_word, word};
+use super::{half, put_all, put_half, put_head, put_leaf, put_word, word, Header};
 use other::calls::Written;
 use other::check::Refusal;
 
@@ -12,11 +13,12 @@ pub fn translate(src: &[u8], used: usize, out: &mut [u8]) -> Written {
     if checked.number != 0 {
         return Written::refused(checked.number);
     }
-    let size = size(&src[..used], checked.k);
+    let header = Header::of(src);
+    let size = size(&src[..used], header);
     if size > out.len() {
         return Written::refused(Refusal::OutputTooShort);
     }
-    write(&src[..used], checked.k, size, out);
+    write(&src[..used], header, size, out);
     Written {
         number: 0,
         used: size as u32,
@@ -24,15 +26,17 @@ pub fn translate(src: &[u8], used: usize, out: &mut [u8]) -> Written {
 }
 
 /// How long the term of a program is that was checked.
-pub fn size(program: &[u8], k: u32) -> usize {
-    8 + row_size(&program[12..], k)
+pub fn size(program: &[u8], header: Header) -> usize {
+    header.contents + row_size(&program[header.contents + 4..], header.k)
 }
 
 /// The term of that size, and zeros behind it.
-pub fn write(program: &[u8], k: u32, size: usize, out: &mut [u8]) {
-    put_head(out, 0, size, 40);
-    put_word(out, 4, k);
-    row(&program[12..], k, out, 8);
+pub fn write(program: &[u8], header: Header, size: usize, out: &mut [u8]) {
+    let Header { k, contents, .. } = header;
+    out[..contents].copy_from_slice(&program[..contents]);
+    let kind = if half(program, 2) == 7 { 40 } else { 41 };
+    put_head(out, 0, size, kind);
+    row(&program[contents + 4..], k, out, contents);
     out[size..].fill(0);
 }
 

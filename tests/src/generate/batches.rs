@@ -1,8 +1,9 @@
 //! Batches (02, C-16): a program and jobs for it, by hand and of every sort.
 
 use crate::calls::Written;
-use crate::check::{lent, BATCH_LIMIT, BUFFER_LIMIT};
+use crate::check::{lent_within, BATCH_LIMIT, BUFFER_LIMIT};
 use crate::codec::Record;
+use crate::generate::ceilings::value_above;
 use crate::generate::lending::{
     lent_budget, output_room, perhaps_damaged, room, sound_program, translatable_program, Lending,
 };
@@ -11,7 +12,7 @@ use crate::generate::runs::ends_within;
 use crate::random::Random;
 use crate::run::stepper::Config;
 use crate::translate::translate;
-use crate::tree::{Program, Value};
+use crate::tree::{Header, Program, Value};
 
 /// A start store and the budget of its run.
 #[derive(Clone, Debug)]
@@ -79,7 +80,7 @@ pub fn any_batch(random: &mut Random) -> Batch {
     };
     let Lending { buffer, used } = perhaps_damaged(random, &program.encode());
     // Changed bits may have made another sound program, whose runs may be much longer.
-    let program: Program = lent(&buffer, used).unwrap_or(program);
+    let program: Program = lent_within(&buffer, used).unwrap_or(program);
     let wanted = translate(&program).encoded_len().min(BUFFER_LIMIT);
     let (term, work) = (term_room(random, wanted), work_room(random, wanted));
     let count = number_of_jobs(random);
@@ -90,11 +91,23 @@ pub fn any_batch(random: &mut Random) -> Batch {
     (batch.program, batch.used) = (buffer, used);
     batch.term.resize(term, 0x5A);
     batch.work.resize(work, 0xA5);
+    if random.one_in(12) {
+        raise_a_value(random, &mut batch.values, program.header);
+    }
     let values = length(random, batch.values.len());
     batch.values.resize(values, 3);
     let answers = length(random, batch.answers.len());
     batch.answers.resize(answers, 3);
     batch
+}
+
+/// One of them above the ceiling, if there is such a value.
+fn raise_a_value(random: &mut Random, values: &mut [Value], header: Header) {
+    let above = value_above(random, header);
+    if let (Some(above), false) = (above, values.is_empty()) {
+        let place = random.below(values.len());
+        values[place] = above;
+    }
 }
 
 /// Mostly as long as the term or longer.
@@ -125,7 +138,7 @@ fn number_of_jobs(random: &mut Random) -> usize {
 }
 
 fn any_job(random: &mut Random, program: &Program, room: usize) -> Job {
-    let store = store(random, program.k);
+    let store = store(random, program.header);
     let ends = random.one_in(4) && {
         let (program, store) = (program.clone(), store.clone());
         ends_within(&Config { program, store }.term(), room, 500)

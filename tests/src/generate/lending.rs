@@ -2,12 +2,14 @@
 //! are right or just wrong, and records that are sound or not.
 
 use crate::check::BUFFER_LIMIT;
-use crate::generate::damage::{cut, damaged, flipped, Damaged};
+use crate::generate::damage::{cut, damaged, flipped, other_edition, raised, Damaged};
 use crate::generate::lend;
-use crate::generate::programs::{program, store, wrong_store, SHORTEST as SHORTEST_PROGRAM};
+use crate::generate::programs::{
+    program, store, store_above, wrong_store, SHORTEST as SHORTEST_PROGRAM,
+};
 use crate::generate::terms::{any_term, closed_term, no_translation, translation, SHORTEST};
 use crate::random::Random;
-use crate::tree::{Program, TermRecord};
+use crate::tree::{Header, Program, TermRecord};
 
 /// A lent buffer and its used length.
 pub struct Lending {
@@ -79,7 +81,7 @@ fn used(random: &mut Random, own: usize) -> usize {
     match random.below(32) {
         0 => own + 1,
         1 => own - 1,
-        2 => random.below(14),
+        2 => random.below(18),
         3 => *random.pick(&[BUFFER_LIMIT, BUFFER_LIMIT + 1, own + (1 << 32), usize::MAX]),
         _ => own,
     }
@@ -100,18 +102,21 @@ pub fn perhaps_damaged(random: &mut Random, record: &[u8]) -> Lending {
         0 => damaged(random, record),
         1 => cut(random, record),
         2 => flipped(random, record),
+        3 => other_edition(random, record),
+        4 => raised(random, record),
         _ => return lending(random, record),
     };
     let Damaged { buffer, used, .. } = case;
     Lending { buffer, used }
 }
 
-/// A store for a record of k variables: nearly always of k values.
-pub fn lent_store(random: &mut Random, k: u32) -> Vec<u32> {
-    if random.one_in(8) {
-        return wrong_store(random, k);
+/// A store for a record with this header: nearly always of k values, and mostly within the ceiling.
+pub fn lent_store(random: &mut Random, header: Header) -> Vec<u32> {
+    match random.below(8) {
+        0 => wrong_store(random, header.k),
+        1 => store_above(random, header).unwrap_or_else(|| store(random, header)),
+        _ => store(random, header),
     }
-    store(random, k)
 }
 
 /// A budget; the largest ones only where `ends` says that the run then comes to an end.

@@ -1,17 +1,18 @@
-//! Sound programs of every shape, and stores for them.
+//! Sound programs of every shape in both editions, and stores for them.
 
 use crate::codec::command_len;
+use crate::generate::ceilings::{program_in_any_edition, value_above, value_within};
 use crate::random::Random;
-use crate::tree::{Block, Bound, Command, Expr, Program, Value, Variable};
+use crate::tree::{Block, Bound, Command, Expr, Header, Program, Value, Variable};
 
-/// The shortest program: its header and the head of an empty block.
+/// The shortest program: its header, of edition 1, and the head of an empty block.
 pub const SHORTEST: usize = 12;
 
 /// A sound program whose record is at most `limit` bytes long.
 pub fn program(random: &mut Random, limit: usize) -> Program {
     let k = number_of_variables(random);
     let block = shaped_block(random, k, limit - SHORTEST);
-    Program { k, block }
+    program_in_any_edition(random, Program::new(k, block), limit)
 }
 
 /// k from 1 to 16. Small ones come more often: they leave room for more commands, and with k = 1 a
@@ -131,12 +132,15 @@ pub fn value(random: &mut Random) -> Value {
     }
 }
 
-/// A store of k values.
-pub fn store(random: &mut Random, k: u32) -> Vec<Value> {
-    (0..k).map(|_| value(random)).collect()
+/// A store for a record with this header: k values, none above the ceiling.
+pub fn store(random: &mut Random, header: Header) -> Vec<Value> {
+    (0..header.k)
+        .map(|_| value_within(random, header))
+        .collect()
 }
 
-/// A store of other than k values: one fewer, one more, none, or any other number.
+/// A store of other than k values: one fewer, one more, none, or any other number. The values may be above
+/// any ceiling: their number is looked at first.
 pub fn wrong_store(random: &mut Random, k: u32) -> Vec<Value> {
     let len = match random.below(4) {
         0 => k - 1,
@@ -144,5 +148,23 @@ pub fn wrong_store(random: &mut Random, k: u32) -> Vec<Value> {
         2 => 0,
         _ => k + 1 + random.below(20) as u32,
     };
-    store(random, len)
+    (0..len).map(|_| value(random)).collect()
+}
+
+/// A store that is refused: of other than k values, or, where there is a value above the ceiling, of k with
+/// such a one among them.
+pub fn refused_store(random: &mut Random, header: Header) -> Vec<Value> {
+    match store_above(random, header) {
+        Some(values) if random.one_in(2) => values,
+        _ => wrong_store(random, header.k),
+    }
+}
+
+/// A store of k values of which at least one is above the ceiling, if there is such a value.
+pub fn store_above(random: &mut Random, header: Header) -> Option<Vec<Value>> {
+    let above = value_above(random, header)?;
+    let mut values = store(random, header);
+    let place = random.below(values.len());
+    values[place] = above;
+    Some(values)
 }

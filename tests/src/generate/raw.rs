@@ -14,10 +14,11 @@ pub struct Raw {
     pub skew: i32,
 }
 
-/// How many words stand before a record's inner records (01, "Records").
+/// How many words stand before a record's inner records (01, "Records"; 02, C-17).
 fn words_before(kind: u16) -> usize {
     match kind {
         kind::BLOCK | kind::SUCC | kind::PRED | kind::TUPLE | kind::LET_ALL => 0,
+        kind::PROGRAM_2 | kind::TERM_2 => 2,
         _ => 1,
     }
 }
@@ -92,6 +93,19 @@ impl Raw {
         }
         *left -= 1;
         self.children.iter_mut().find_map(|child| child.find(left))
+    }
+
+    /// The ceiling, where it is a header of edition 2.
+    pub fn ceiling(&self) -> Option<u32> {
+        match self.kind {
+            kind::PROGRAM_2 | kind::TERM_2 => Some(self.words[1]),
+            _ => None,
+        }
+    }
+
+    /// Whether its word is a value, so that row 15 looks at it.
+    pub fn holds_a_value(&self) -> bool {
+        matches!(self.kind, kind::LITERAL | kind::NUMERAL)
     }
 
     /// Whether its word is a variable number, so that row 5 looks at it.

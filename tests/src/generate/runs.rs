@@ -1,8 +1,9 @@
 //! Lists of runs in any mixture of the two engines, refused ones among them (01, "Run orders").
 
-use crate::generate::programs::wrong_store;
+use crate::generate::programs::refused_store;
 use crate::random::Random;
 use crate::run::{run, Machine, Outcome};
+use crate::tree::Header;
 
 #[derive(Clone, Copy, Debug, PartialEq, Eq)]
 pub enum Engine {
@@ -24,26 +25,27 @@ pub struct Run {
     pub engine: Engine,
     /// The used length handed over; `None` is the one that the engine's last accepted run gave.
     pub used: Option<usize>,
-    /// The store handed to the stepper; `None` is its own, anything else is not k values.
+    /// The store handed to the stepper; `None` is its own, anything else is not k values or has one above
+    /// the ceiling.
     pub store: Option<Vec<u32>>,
     pub budget: Budget,
 }
 
 /// A list of runs. The largest budgets only come where `ends` says that the run then ends.
-pub fn runs(random: &mut Random, k: u32, ends: bool) -> Vec<Run> {
+pub fn runs(random: &mut Random, header: Header, ends: bool) -> Vec<Run> {
     (0..random.below(14))
-        .map(|_| one_run(random, k, ends))
+        .map(|_| one_run(random, header, ends))
         .collect()
 }
 
-fn one_run(random: &mut Random, k: u32, ends: bool) -> Run {
+fn one_run(random: &mut Random, header: Header, ends: bool) -> Run {
     let engine = *random.pick(&[Engine::Stepper, Engine::Reducer]);
     let wrong_used = random.one_in(8);
     let wrong_values = engine == Engine::Stepper && random.one_in(8);
     Run {
         engine,
         used: wrong_used.then(|| any_used(random)),
-        store: wrong_values.then(|| wrong_store(random, k)),
+        store: wrong_values.then(|| refused_store(random, header)),
         budget: budget(random, ends),
     }
 }

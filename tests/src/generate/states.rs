@@ -91,37 +91,42 @@ pub fn shallow_program(random: &mut Random) -> Program {
     }
 }
 
-/// A state of a block, which a run need not come upon: any place, any counts, any sum.
-pub fn any_spot(random: &mut Random, block: &Block) -> Spot {
+/// A state of a program, which a run need not come upon: any place, any counts, any sum within the ceiling.
+pub fn any_spot(random: &mut Random, program: &Program) -> Spot {
+    spot_up_to(random, &program.block, program.header.ceiling())
+}
+
+/// The same of a block, with counts and a sum of up to `most`.
+pub fn spot_up_to(random: &mut Random, block: &Block, most: Value) -> Spot {
     let at = random.below(block.len() + 1);
     let open = match block.get(at) {
-        Some(command) if !random.one_in(4) => open(random, command),
+        Some(command) if !random.one_in(4) => open(random, command, most),
         _ => None,
     };
     Spot { at, open }
 }
 
-fn open(random: &mut Random, command: &Command) -> Option<Open> {
+fn open(random: &mut Random, command: &Command, most: Value) -> Option<Open> {
     match command {
         Command::Assign(_, Expr::PlusOne(_) | Expr::MinusOne(_)) => {
-            Some(Open::Sum(count(random, u32::MAX)))
+            Some(Open::Sum(count(random, most)))
         }
         Command::Assign(..) => None,
-        Command::Block(inner) => Some(Open::Block(Box::new(any_spot(random, inner)))),
+        Command::Block(inner) => Some(Open::Block(Box::new(spot_up_to(random, inner, most)))),
         Command::Loop(_, _, body) => {
-            let top = count(random, u32::MAX);
-            Some(Open::Loop(top, turn(random, top, body)))
+            let top = count(random, most);
+            Some(Open::Loop(top, turn(random, top, body, most)))
         }
     }
 }
 
-fn turn(random: &mut Random, top: Value, body: &Block) -> Turn {
+fn turn(random: &mut Random, top: Value, body: &Block, most: Value) -> Turn {
     let reached = count(random, top);
     match (random.below(8), reached) {
         (0, _) => Turn::Unrolling(reached),
         (1, _) | (_, 0) => Turn::AtZero,
         (2, turn) => Turn::Index(turn),
-        (_, turn) => Turn::Body(turn, Box::new(any_spot(random, body))),
+        (_, turn) => Turn::Body(turn, Box::new(spot_up_to(random, body, most))),
     }
 }
 

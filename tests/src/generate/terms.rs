@@ -2,13 +2,16 @@
 
 use std::collections::BTreeSet;
 
+use crate::check::BUFFER_LIMIT;
 use crate::codec::Record;
+use crate::generate::ceilings::term_in_any_edition;
 use crate::generate::programs::{number_of_variables, program, shaped_block, value, variable};
 use crate::random::Random;
 use crate::translate::{all, block as translate_block, translate};
 use crate::tree::{Atom, Program, Simple, Term, TermRecord, Variable};
 
-/// Long enough for the shortest term at k = 16: a header of 8 bytes and a tuple of 4 + 8·16.
+/// Long enough for the shortest term at k = 16: a header of 8 bytes, as edition 1 has it, and a tuple of
+/// 4 + 8·16.
 pub const SHORTEST: usize = 140;
 
 /// A program whose translation is at most `limit` bytes long, and that translation.
@@ -41,7 +44,7 @@ fn grammatical(
 ) -> TermRecord {
     let k = number_of_variables(random);
     let term = term(random, k, limit - 8, &scope(k));
-    TermRecord { k, term }
+    term_in_any_edition(random, TermRecord::new(k, term), limit)
 }
 
 fn every_variable(k: u32) -> BTreeSet<Variable> {
@@ -121,7 +124,7 @@ pub fn no_translation(random: &mut Random) -> TermRecord {
             term = surround(random, k, term);
         }
     }
-    TermRecord { k, term }
+    term_in_any_edition(random, TermRecord::new(k, term), BUFFER_LIMIT)
 }
 
 fn part(random: &mut Random, k: u32) -> Box<Term> {

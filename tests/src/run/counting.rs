@@ -8,7 +8,7 @@ pub mod expand;
 pub mod words;
 
 use crate::run::stepper::{bound_value, place, Config};
-use crate::run::{Answer, Outcome};
+use crate::run::{plus_one, Answer, Outcome};
 use crate::tree::{Block, Command, Expr, Program, Value, Variable};
 
 /// How far a block has come.
@@ -70,6 +70,34 @@ impl Spot {
         self.open = open;
         Answer::Next(())
     }
+
+    /// The values that it holds beside the store: the top counts of the loops in play, and the sum that
+    /// waits, if one does. No count that a loop has reached is above its top.
+    pub fn values(&self) -> Vec<Value> {
+        match &self.open {
+            None => vec![],
+            Some(Open::Sum(sum)) => vec![*sum],
+            Some(Open::Block(inside)) => inside.values(),
+            Some(Open::Loop(top, Turn::Body(_, inside))) => [vec![*top], inside.values()].concat(),
+            Some(Open::Loop(top, _)) => vec![*top],
+        }
+    }
+}
+
+/// What a step reads and writes beside the state: the store, whose values stay within the ceiling.
+struct Store<'a> {
+    values: &'a mut [Value],
+    ceiling: Value,
+}
+
+impl Store<'_> {
+    fn get(&self, variable: Variable) -> Value {
+        self.values[place(variable)]
+    }
+
+    fn set(&mut self, variable: Variable, value: Value) {
+        self.values[place(variable)] = value;
+    }
 }
 
 /// The counting stepper's state: the program it was started with, how far it has come, and the store.
@@ -91,7 +119,11 @@ impl Counting {
 
     /// One step. Nothing changes where none can be made.
     pub fn step(&mut self) -> Answer<()> {
-        step(&self.program.block, &mut self.spot, &mut self.store)
+        let mut store = Store {
+            values: &mut self.store,
+            ceiling: self.program.header.ceiling(),
+        };
+        step(&self.program.block, &mut self.spot, &mut store)
     }
 
     /// Runs for at most `budget` steps; gives the outcome, read from the state left, and the steps.
@@ -110,7 +142,7 @@ impl Counting {
     pub fn expansion(&self) -> Config {
         Config {
             program: Program {
-                k: self.program.k,
+                header: self.program.header,
                 block: expand::block(&self.program.block, &self.spot),
             },
             store: self.store.clone(),
@@ -127,7 +159,7 @@ fn stopped(answer: Answer<()>) -> Option<Outcome> {
 }
 
 /// One step of a block. Finished: nothing is left in it.
-fn step(block: &Block, spot: &mut Spot, store: &mut [Value]) -> Answer<()> {
+fn step(block: &Block, spot: &mut Spot, store: &mut Store) -> Answer<()> {
     match block.get(spot.at) {
         None => Answer::Finished,
         Some(Command::Assign(variable, expr)) => assign(spot, *variable, expr, store),
@@ -137,34 +169,34 @@ fn step(block: &Block, spot: &mut Spot, store: &mut [Value]) -> Answer<()> {
                 Answer::Finished => spot.pass(),
                 other => other,
             },
-            _ => spot.open(Some(met(bound_value(bound, store)))),
+            _ => spot.open(Some(met(bound_value(bound, store.values)))),
         },
     }
 }
 
 /// A waiting sum is stored. A plus one or minus one becomes one, and that is a step of its own.
-fn assign(spot: &mut Spot, variable: Variable, expr: &Expr, store: &mut [Value]) -> Answer<()> {
+fn assign(spot: &mut Spot, variable: Variable, expr: &Expr, store: &mut Store) -> Answer<()> {
     let value = match (&spot.open, expr) {
         (Some(Open::Sum(sum)), _) => *sum,
         (_, Expr::Literal(value)) => *value,
-        (_, Expr::Variable(from)) => store[place(*from)],
+        (_, Expr::Variable(from)) => store.get(*from),
         (_, Expr::PlusOne(from)) => {
-            return match store[place(*from)].checked_add(1) {
+            return match plus_one(store.get(*from), store.ceiling) {
                 None => Answer::Over,
                 Some(sum) => spot.open(Some(Open::Sum(sum))),
             }
         }
         (_, Expr::MinusOne(from)) => {
-            let sum = store[place(*from)].saturating_sub(1);
+            let sum = store.get(*from).saturating_sub(1);
             return spot.open(Some(Open::Sum(sum)));
         }
     };
-    store[place(variable)] = value;
+    store.set(variable, value);
     spot.pass()
 }
 
 /// One step inside the block, which opens it where it is not; where nothing is left in it, it goes.
-fn within(spot: &mut Spot, inner: &Block, store: &mut [Value]) -> Answer<()> {
+fn within(spot: &mut Spot, inner: &Block, store: &mut Store) -> Answer<()> {
     if let Some(Open::Block(inside)) = &mut spot.open {
         return match step(inner, inside, store) {
             Answer::Finished => spot.pass(),
@@ -196,13 +228,13 @@ fn turned(
     top: Value,
     turn: &mut Turn,
     body: &Block,
-    store: &mut [Value],
+    store: &mut Store,
 ) -> Answer<()> {
     let next = match turn {
         Turn::Unrolling(0) => Turn::AtZero,
         Turn::Unrolling(left) => Turn::Unrolling(*left - 1),
         Turn::Index(count) => {
-            store[place(index)] = *count;
+            store.set(index, *count);
             Turn::Body(*count, Box::new(Spot::start()))
         }
         Turn::AtZero if top == 0 => return Answer::Finished,

@@ -1,7 +1,7 @@
 //! One reduction of a closed term (01, "Reducer").
 
 use crate::codec::{term_len, Record};
-use crate::run::{Answer, Machine};
+use crate::run::{plus_one, Answer, Machine};
 use crate::substitute::{substitute, values_of, Values};
 use crate::tree::{Atom, Simple, Term, TermRecord, Value, Variable};
 
@@ -31,7 +31,7 @@ impl Machine for TermRecord {
     }
 
     fn next(&self) -> Answer<Reduction> {
-        contract(redex(&self.term))
+        contract(redex(&self.term), self.header.ceiling())
     }
 
     fn lengths(&self, reduction: &Reduction) -> (usize, usize) {
@@ -77,10 +77,10 @@ fn redex_mut(term: &mut Term) -> &mut Term {
 }
 
 /// One reduction at its place. A tuple is finished.
-fn contract(term: &Term) -> Answer<Reduction> {
+fn contract(term: &Term, ceiling: Value) -> Answer<Reduction> {
     match term {
         Term::Tuple(_) => Answer::Finished,
-        Term::LetOne(variable, simple, last) => let_one(*variable, simple, last),
+        Term::LetOne(variable, simple, last) => let_one(*variable, simple, last, ceiling),
         Term::LetAll(first, last) => match &**first {
             Term::Tuple(atoms) => Answer::Next(substituted(last, &values_of(&numerals(atoms)))),
             _ => unreachable!("the redex lies deeper"),
@@ -103,13 +103,13 @@ fn substituted(last: &Term, values: &Values) -> Reduction {
 
 /// Of a numeral: the last term with that variable substituted. Of succ or pred: that becomes the
 /// numeral, which is a reduction of its own.
-fn let_one(variable: Variable, simple: &Simple, last: &Term) -> Answer<Reduction> {
+fn let_one(variable: Variable, simple: &Simple, last: &Term, ceiling: Value) -> Answer<Reduction> {
     let computed = match simple {
         Simple::Atom(atom) => {
             let only = Values::from([(variable, numeral(atom))]);
             return Answer::Next(substituted(last, &only));
         }
-        Simple::Succ(atom) => numeral(atom).checked_add(1),
+        Simple::Succ(atom) => plus_one(numeral(atom), ceiling),
         Simple::Pred(atom) => Some(numeral(atom).saturating_sub(1)),
     };
     match computed {

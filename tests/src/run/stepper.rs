@@ -1,7 +1,7 @@
 //! One step of a configuration (01, "Stepper"; 003, rules 1 to 9).
 
 use crate::codec::{command_len, Record};
-use crate::run::{Answer, Machine};
+use crate::run::{plus_one, Answer, Machine};
 use crate::substitute::{substitute, values_of};
 use crate::translate::translate;
 use crate::tree::{Block, Bound, Command, Expr, Program, TermRecord, Value, Variable};
@@ -53,7 +53,7 @@ impl Machine for Config {
     fn next(&self) -> Answer<Step> {
         match active(&self.program.block).first() {
             None => Answer::Finished,
-            Some(command) => step(command, &self.store),
+            Some(command) => step(command, &self.store, self.program.header.ceiling()),
         }
     }
 
@@ -102,9 +102,9 @@ fn active_mut(block: &mut Block) -> &mut Block {
 }
 
 /// One step of a command that is no nonempty block.
-fn step(command: &Command, store: &[Value]) -> Answer<Step> {
+fn step(command: &Command, store: &[Value], ceiling: Value) -> Answer<Step> {
     match command {
-        Command::Assign(variable, expr) => assign(*variable, expr, store),
+        Command::Assign(variable, expr) => assign(*variable, expr, store, ceiling),
         // Rule 6: an empty block is gone.
         Command::Block(_) => Answer::Next(Step::replace(Vec::new())),
         Command::Loop(index, bound, body) => {
@@ -115,11 +115,11 @@ fn step(command: &Command, store: &[Value]) -> Answer<Step> {
 }
 
 /// Rules 3 and 4 store; rules 1, 2 and 5 only turn the expression into a literal.
-fn assign(variable: Variable, expr: &Expr, store: &[Value]) -> Answer<Step> {
+fn assign(variable: Variable, expr: &Expr, store: &[Value], ceiling: Value) -> Answer<Step> {
     let computed = match *expr {
         Expr::Literal(value) => return Answer::Next(Step::store(variable, value)),
         Expr::Variable(from) => return Answer::Next(Step::store(variable, store[place(from)])),
-        Expr::PlusOne(from) => store[place(from)].checked_add(1),
+        Expr::PlusOne(from) => plus_one(store[place(from)], ceiling),
         Expr::MinusOne(from) => Some(store[place(from)].saturating_sub(1)),
     };
     match computed {

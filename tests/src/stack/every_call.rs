@@ -1,4 +1,4 @@
-//! The twelve calls, as the stack is measured of them.
+//! The twelve calls, as the stack is measured of them, on records of both editions.
 
 use super::Call;
 

@@ -2,20 +2,12 @@
 use borrow.Author.Needs.{needs}
 use Rattle.batch.proofs.run_checked.Statement.{statement}
 use Rattle.batch.proofs.run_checked.Tie as tie
-use Rattle.batch.proofs.run_checked.Reads as reads
-use Rattle.batch.proofs.run_checked.Lts as lts
-use Rattle.batch.proofs.job.run_jobs.Reads as run-jobs-reads
-use Rattle.buffer.proofs.zero.Reads as zero-reads
-use Rattle.term.proofs.refused.Reads as refused-reads
-use Rattle.term.proofs.wrote.Reads as wrote-reads
-use Rattle.translator.proofs.translation_size.Reads as translation-size-reads
-use Rattle.translator.proofs.write_translation.Reads as write-translation-reads
 use mathlib.Core.Path.{_∙_, ap, refl}
 use mathlib.Core.Logic.{inl, inr}
 use native.Mathlib.Omega.{arith}
 use lib.ListN.{length}
 use Rattle.batch.proofs.AnswersLaws.{rows-small}
-use Rattle.batch.proofs.RunBatchLaws.{batch-answers, batch-six, batch-ten, batch-zero, given-term}
+use Rattle.batch.proofs.RunBatchLaws.{batch-answers, batch-six, batch-sixteen, batch-ten, batch-zero, given-term, values-small}
 use Rattle.batch.proofs.JobLaws.{cleared}
 use Rattle.buffer.specs.Slice.{zeros}
 use Rattle.rules.specs.Translation.{translate}
@@ -48,39 +40,78 @@ returns-2 : tie.Need-returns-2
 returns-2 c =
     batch-answers (c .refused2 .ensures) (batch-six (c .before .before .before .before .before .before .before .before .before .before .args .program .now) (c .before .before .before .before .before .before .before .before .before .before .args .used) (c .before .before .before .before .before .before .before .before .before .before .args .term .now) (c .before .before .before .before .before .before .before .before .before .before .args .work .now) (c .before .before .before .before .before .before .before .before .before .before .args .budgets .now) (c .before .before .before .before .before .before .before .before .before .before .args .values .now) (c .before .before .before .before .before .before .before .before .before .before .args .answers .now) (c .before .before .before .before .before .before .before .before .before .before .pre .1) (inr (c .before .if2 .taken)))
 
-translation-size-requires : tie.Need-translation-size-requires
-translation-size-requires c κs = search needs
+largest-requires : tie.Need-largest-requires
+largest-requires c κs = search needs
+
+some-above-requires : tie.Need-some-above-requires
+some-above-requires c κs = search needs
 
 refused-requires-3 : tie.Need-refused-requires-3
 refused-requires-3 c κs = search needs
 
 returns-3 : tie.Need-returns-3
 returns-3 c =
-    batch-answers (c .refused3 .ensures) (batch-ten (c .before .before .before .before .before .before .before .before .before .before .before .before .args .program .now) (c .before .before .before .before .before .before .before .before .before .before .before .before .args .used) (c .before .before .before .before .before .before .before .before .before .before .before .before .args .term .now) (c .before .before .before .before .before .before .before .before .before .before .before .before .args .work .now) (c .before .before .before .before .before .before .before .before .before .before .before .before .args .budgets .now) (c .before .before .before .before .before .before .before .before .before .before .before .before .args .values .now) (c .before .before .before .before .before .before .before .before .before .before .before .before .args .answers .now) (c .before .before .before .before .before .before .before .before .before .before .before .before .pre .1) (c .before .before .before .before .if1 .left) (c .before .before .before .if2 .left) (c .before .before .translation-size .result) (c .before .before .translation-size .ensures (c .before .before .before .before .before .before .before .before .before .before .before .before .pre .0) (c .before .before .before .before .before .before .before .before .before .before .before .before .pre .1 .holds)) (inl (c .before .if3 .taken)))
+    let a = c .before .before .before .before .before .before .before .before .before .before .before .before .before .args in
+    let p = c .before .before .before .before .before .before .before .before .before .before .before .before .before .pre in
+    let largest = c .before .before .before .largest in
+    let above = c .before .before .some-above in
+    batch-answers (c .refused3 .ensures) (batch-sixteen (a .program .now) (a .used) (a .term .now) (a .work .now) (a .budgets .now) (a .values .now) (a .answers .now) (p .1) (c .before .before .before .before .before .if1 .left) (c .before .before .before .before .if2 .left) (largest .result) (largest .ensures) (above .result) (above .ensures) (c .before .if3 .taken))
+
+translation-size-requires : tie.Need-translation-size-requires
+translation-size-requires c κs = search needs
 
 refused-requires-4 : tie.Need-refused-requires-4
 refused-requires-4 c κs = search needs
 
 returns-4 : tie.Need-returns-4
 returns-4 c =
-    batch-answers (c .refused4 .ensures) (batch-ten (c .before .before .before .before .before .before .before .before .before .before .before .before .before .args .program .now) (c .before .before .before .before .before .before .before .before .before .before .before .before .before .args .used) (c .before .before .before .before .before .before .before .before .before .before .before .before .before .args .term .now) (c .before .before .before .before .before .before .before .before .before .before .before .before .before .args .work .now) (c .before .before .before .before .before .before .before .before .before .before .before .before .before .args .budgets .now) (c .before .before .before .before .before .before .before .before .before .before .before .before .before .args .values .now) (c .before .before .before .before .before .before .before .before .before .before .before .before .before .args .answers .now) (c .before .before .before .before .before .before .before .before .before .before .before .before .before .pre .1) (c .before .before .before .before .before .if1 .left) (c .before .before .before .before .if2 .left) (c .before .before .before .translation-size .result) (c .before .before .before .translation-size .ensures (c .before .before .before .before .before .before .before .before .before .before .before .before .before .pre .0) (c .before .before .before .before .before .before .before .before .before .before .before .before .before .pre .1 .holds)) (inr (c .before .if4 .taken)))
+    let a = c .before .before .before .before .before .before .before .before .before .before .before .before .before .before .before .args in
+    let p = c .before .before .before .before .before .before .before .before .before .before .before .before .before .before .before .pre in
+    let largest = c .before .before .before .before .before .largest in
+    let above = c .before .before .before .before .some-above in
+    let small = values-small (a .program .now) (a .used) (a .term .now) (a .work .now) (a .budgets .now) (a .values .now) (a .answers .now) (p .1) (c .before .before .before .before .before .before .before .if1 .left) (c .before .before .before .before .before .before .if2 .left) (largest .result) (largest .ensures) (above .result) (above .ensures) (c .before .before .before .if3 .left) in
+    let size = c .before .before .translation-size in
+    let e = size .ensures (p .0) (p .1 .holds) in
+    batch-answers (c .refused4 .ensures) (batch-ten (a .program .now) (a .used) (a .term .now) (a .work .now) (a .budgets .now) (a .values .now) (a .answers .now) (p .1) (c .before .before .before .before .before .before .before .if1 .left) (c .before .before .before .before .before .before .if2 .left) small (size .result) e (inl (c .before .if4 .taken)))
+
+refused-requires-5 : tie.Need-refused-requires-5
+refused-requires-5 c κs = search needs
+
+returns-5 : tie.Need-returns-5
+returns-5 c =
+    let a = c .before .before .before .before .before .before .before .before .before .before .before .before .before .before .before .before .args in
+    let p = c .before .before .before .before .before .before .before .before .before .before .before .before .before .before .before .before .pre in
+    let largest = c .before .before .before .before .before .before .largest in
+    let above = c .before .before .before .before .before .some-above in
+    let small = values-small (a .program .now) (a .used) (a .term .now) (a .work .now) (a .budgets .now) (a .values .now) (a .answers .now) (p .1) (c .before .before .before .before .before .before .before .before .if1 .left) (c .before .before .before .before .before .before .before .if2 .left) (largest .result) (largest .ensures) (above .result) (above .ensures) (c .before .before .before .before .if3 .left) in
+    let size = c .before .before .before .translation-size in
+    let e = size .ensures (p .0) (p .1 .holds) in
+    batch-answers (c .refused5 .ensures) (batch-ten (a .program .now) (a .used) (a .term .now) (a .work .now) (a .budgets .now) (a .values .now) (a .answers .now) (p .1) (c .before .before .before .before .before .before .before .before .if1 .left) (c .before .before .before .before .before .before .before .if2 .left) small (size .result) e (inr (c .before .if5 .taken)))
 
 write-translation-requires : tie.Need-write-translation-requires
 write-translation-requires c κs =
-    let e = c .before .before .before .translation-size .ensures (c .before .before .before .before .before .before .before .before .before .before .before .before .before .pre .0) (c .before .before .before .before .before .before .before .before .before .before .before .before .before .pre .1 .holds) in
-    ((c .before .before .before .before .before .before .before .before .before .before .before .before .before .pre .0, c .before .before .before .before .before .before .before .before .before .before .before .before .before .pre .1 .holds, omega (arith, e, c .before .before .if3 .left)), c .before .before .before .before .before .before .before .before .before .before .before .before .before .pre .1 .low)
+    let p = c .before .before .before .before .before .before .before .before .before .before .before .before .before .before .before .before .pre in
+    let e = c .before .before .before .translation-size .ensures (p .0) (p .1 .holds) in
+    ((p .0, p .1 .holds, omega (arith, e, c .before .before .if4 .left)), p .1 .low)
 
 run-jobs-requires : tie.Need-run-jobs-requires
 run-jobs-requires c κs =
-    let e = c .before .before .before .before .before .before .before .before .before .translation-size .ensures (c .before .before .before .before .before .before .before .before .before .before .before .before .before .before .before .before .before .before .before .pre .0) (c .before .before .before .before .before .before .before .before .before .before .before .before .before .before .before .before .before .before .before .pre .1 .holds) in
-    let w = c .before .before .before .before .before .write-translation .ensures (c .before .before .before .before .before .before .before .before .before .before .before .before .before .before .before .before .before .before .before .pre .0) (c .before .before .before .before .before .before .before .before .before .before .before .before .before .before .before .before .before .before .before .pre .1 .holds) in
-    ((translate (c .before .before .before .before .before .before .before .before .before .before .before .before .before .before .before .before .before .before .before .args .h .k) (c .before .before .before .before .before .before .before .before .before .before .before .before .before .before .before .before .before .before .before .pre .0), given-term (c .before .before .before .before .before .before .before .before .before .before .before .before .before .before .before .before .before .before .before .args .program .now) (c .before .before .before .before .before .before .before .before .before .before .before .before .before .before .before .before .before .before .before .args .used) (c .before .before .before .before .before .before .before .before .before .before .before .before .before .before .before .before .before .before .before .args .term .now) (c .before .before .before .before .before .before .before .before .before .before .before .before .before .before .before .before .before .before .before .args .work .now) (c .before .before .before .before .before .before .before .before .before .before .before .before .before .before .before .before .before .before .before .args .budgets .now) (c .before .before .before .before .before .before .before .before .before .before .before .before .before .before .before .before .before .before .before .args .values .now) (c .before .before .before .before .before .before .before .before .before .before .before .before .before .before .before .before .before .before .before .args .answers .now) (c .before .before .before .before .before .before .before .before .before .before .before .before .before .before .before .before .before .before .before .pre .1) (c .before .before .before .before .before .before .before .before .before .translation-size .result) e (c .before .before .before .before .before .before .before .if4 .left) (c .before .before .before .before .before .write-translation .last .1 .1 .1 .0) w), c .before .before .before .before .before .before .before .before .before .before .before .before .before .before .before .before .before .before .before .pre .1 .many .1, c .before .before .before .before .before .before .before .before .before .before .before .if1 .left, c .before .before .before .before .before .before .before .before .before .before .if2 .left)
+    let a = c .before .before .before .before .before .before .before .before .before .before .before .before .before .before .before .before .before .before .before .before .before .before .args in
+    let p = c .before .before .before .before .before .before .before .before .before .before .before .before .before .before .before .before .before .before .before .before .before .before .pre in
+    let largest = c .before .before .before .before .before .before .before .before .before .before .before .before .largest in
+    let above = c .before .before .before .before .before .before .before .before .before .before .before .some-above in
+    let small = values-small (a .program .now) (a .used) (a .term .now) (a .work .now) (a .budgets .now) (a .values .now) (a .answers .now) (p .1) (c .before .before .before .before .before .before .before .before .before .before .before .before .before .before .if1 .left) (c .before .before .before .before .before .before .before .before .before .before .before .before .before .if2 .left) (largest .result) (largest .ensures) (above .result) (above .ensures) (c .before .before .before .before .before .before .before .before .before .before .if3 .left) in
+    let size = c .before .before .before .before .before .before .before .before .before .translation-size in
+    let e = size .ensures (p .0) (p .1 .holds) in
+    let w = c .before .before .before .before .before .write-translation .ensures (p .0) (p .1 .holds) in
+    ((translate (a .h .k) (p .0), given-term (a .program .now) (a .used) (a .term .now) (a .work .now) (a .budgets .now) (a .values .now) (a .answers .now) (p .1) (size .result) e (c .before .before .before .before .before .before .before .if5 .left) (c .before .before .before .before .before .write-translation .last .1 .1 .1 .0) w), p .1 .many .1, c .before .before .before .before .before .before .before .before .before .before .before .before .before .before .if1 .left, small, c .before .before .before .before .before .before .before .before .before .before .before .before .before .if2 .left)
 
 zero-requires : tie.Need-zero-requires
 zero-requires c κs = search needs
 
 wrote-requires : tie.Need-wrote-requires
-wrote-requires c κs = search needs
+wrote-requires c κs =
+    omega (arith, c .before .before .before .before .before .before .before .before .before .before .before .before .before .before .before .before .before .if4 .left, c .before .before .before .before .before .before .before .before .before .before .before .before .before .before .before .before .before .before .before .before .before .before .before .before .before .before .before .before .before .before .before .pre .1 .lowTerm)
 
 same-length : tie.Need-same-length
 same-length c = search needs
@@ -91,12 +122,18 @@ same-length-2 c = search needs
 same-length-3 : tie.Need-same-length-3
 same-length-3 c = search needs
 
-returns-5 : tie.Need-returns-5
-returns-5 c =
-    let e = c .before .before .before .before .before .before .before .before .before .before .before .before .before .before .before .before .before .before .before .translation-size .ensures (c .before .before .before .before .before .before .before .before .before .before .before .before .before .before .before .before .before .before .before .before .before .before .before .before .before .before .before .before .before .pre .0) (c .before .before .before .before .before .before .before .before .before .before .before .before .before .before .before .before .before .before .before .before .before .before .before .before .before .before .before .before .before .pre .1 .holds) in
-    let w = c .before .before .before .before .before .before .before .before .before .before .before .before .before .before .before .write-translation .ensures (c .before .before .before .before .before .before .before .before .before .before .before .before .before .before .before .before .before .before .before .before .before .before .before .before .before .before .before .before .before .pre .0) (c .before .before .before .before .before .before .before .before .before .before .before .before .before .before .before .before .before .before .before .before .before .before .before .before .before .before .before .before .before .pre .1 .holds) in
+returns-6 : tie.Need-returns-6
+returns-6 c =
+    let a = c .before .before .before .before .before .before .before .before .before .before .before .before .before .before .before .before .before .before .before .before .before .before .before .before .before .before .before .before .before .before .before .before .args in
+    let p = c .before .before .before .before .before .before .before .before .before .before .before .before .before .before .before .before .before .before .before .before .before .before .before .before .before .before .before .before .before .before .before .before .pre in
+    let largest = c .before .before .before .before .before .before .before .before .before .before .before .before .before .before .before .before .before .before .before .before .before .before .largest in
+    let above = c .before .before .before .before .before .before .before .before .before .before .before .before .before .before .before .before .before .before .before .before .before .some-above in
+    let small = values-small (a .program .now) (a .used) (a .term .now) (a .work .now) (a .budgets .now) (a .values .now) (a .answers .now) (p .1) (c .before .before .before .before .before .before .before .before .before .before .before .before .before .before .before .before .before .before .before .before .before .before .before .before .if1 .left) (c .before .before .before .before .before .before .before .before .before .before .before .before .before .before .before .before .before .before .before .before .before .before .before .if2 .left) (largest .result) (largest .ensures) (above .result) (above .ensures) (c .before .before .before .before .before .before .before .before .before .before .before .before .before .before .before .before .before .before .before .before .if3 .left) in
+    let size = c .before .before .before .before .before .before .before .before .before .before .before .before .before .before .before .before .before .before .before .translation-size in
+    let e = size .ensures (p .0) (p .1 .holds) in
+    let w = c .before .before .before .before .before .before .before .before .before .before .before .before .before .before .before .write-translation .ensures (p .0) (p .1 .holds) in
     batch-answers (c .wrote .ensures)
-    (batch-zero (c .before .before .before .before .before .before .before .before .before .before .before .before .before .before .before .before .before .before .before .before .before .before .before .before .before .before .before .before .before .args .program .now) (c .before .before .before .before .before .before .before .before .before .before .before .before .before .before .before .before .before .before .before .before .before .before .before .before .before .before .before .before .before .args .used) (c .before .before .before .before .before .before .before .before .before .before .before .before .before .before .before .before .before .before .before .before .before .before .before .before .before .before .before .before .before .args .term .now) (c .before .before .before .before .before .before .before .before .before .before .before .before .before .before .before .before .before .before .before .before .before .before .before .before .before .before .before .before .before .args .work .now) (c .before .before .before .before .before .before .before .before .before .before .before .before .before .before .before .before .before .before .before .before .before .before .before .before .before .before .before .before .before .args .budgets .now) (c .before .before .before .before .before .before .before .before .before .before .before .before .before .before .before .before .before .before .before .before .before .before .before .before .before .before .before .before .before .args .values .now) (c .before .before .before .before .before .before .before .before .before .before .before .before .before .before .before .before .before .before .before .before .before .before .before .before .before .before .before .before .before .args .answers .now) (c .before .before .before .before .before .before .before .before .before .before .before .before .before .before .before .before .before .before .before .before .before .before .before .before .before .before .before .before .before .pre .1) (c .before .before .before .before .before .before .before .before .before .before .before .before .before .before .before .before .before .before .before .before .before .if1 .left) (c .before .before .before .before .before .before .before .before .before .before .before .before .before .before .before .before .before .before .before .before .if2 .left) (c .before .before .before .before .before .before .before .before .before .before .before .before .before .before .before .before .before .before .before .translation-size .result) e (c .before .before .before .before .before .before .before .before .before .before .before .before .before .before .before .before .before .before .if3 .left) (c .before .before .before .before .before .before .before .before .before .before .before .before .before .before .before .before .before .if4 .left) (c .before .before .before .before .before .before .before .before .before .before .before .before .before .before .before .write-translation .last .1 .1 .1 .0) w (c .before .before .before .zero .last .0) (cleared (c .before .before .before .before .before .before .before .before .before .run-jobs .last .1 .1 .1 .0) (c .before .before .before .zero .last .0) _ refl (c .before .before .before .zero .ensures) ∙ ap zeros (c .before .before .before .before .before .before .before .before .before .run-jobs .kept .1 .1 .1 .0)) (c .before .before .before .before .before .before .before .before .before .run-jobs .last .1 .1 .1 .1 .1 .1 .0) (c .before .before .before .before .before .before .before .before .before .run-jobs .ensures))
+    (batch-zero (a .program .now) (a .used) (a .term .now) (a .work .now) (a .budgets .now) (a .values .now) (a .answers .now) (p .1) (c .before .before .before .before .before .before .before .before .before .before .before .before .before .before .before .before .before .before .before .before .before .before .before .before .if1 .left) (c .before .before .before .before .before .before .before .before .before .before .before .before .before .before .before .before .before .before .before .before .before .before .before .if2 .left) small (size .result) e (c .before .before .before .before .before .before .before .before .before .before .before .before .before .before .before .before .before .before .if4 .left) (c .before .before .before .before .before .before .before .before .before .before .before .before .before .before .before .before .before .if5 .left) (c .before .before .before .before .before .before .before .before .before .before .before .before .before .before .before .write-translation .last .1 .1 .1 .0) w (c .before .before .before .zero .last .0) (cleared (c .before .before .before .before .before .before .before .before .before .run-jobs .last .1 .1 .1 .0) (c .before .before .before .zero .last .0) _ refl (c .before .before .before .zero .ensures) ∙ ap zeros (c .before .before .before .before .before .before .before .before .before .run-jobs .kept .1 .1 .1 .0)) (c .before .before .before .before .before .before .before .before .before .run-jobs .last .1 .1 .1 .1 .1 .1 .0) (c .before .before .before .before .before .before .before .before .before .run-jobs .ensures))
 
 pub run-checked-spec : {M : Type 1} → statement M
 run-checked-spec =
@@ -110,11 +147,15 @@ run-checked-spec =
     mul-if2
     refused-requires-2
     returns-2
-    translation-size-requires
+    largest-requires
+    some-above-requires
     refused-requires-3
     returns-3
+    translation-size-requires
     refused-requires-4
     returns-4
+    refused-requires-5
+    returns-5
     write-translation-requires
     run-jobs-requires
     zero-requires
@@ -122,4 +163,4 @@ run-checked-spec =
     same-length
     same-length-2
     same-length-3
-    returns-5)
+    returns-6)

@@ -60,11 +60,11 @@ check-command-below t =
     check-command.Pre
 
 abbrev check-block-Inv-loop : check-block-lts.InvT-loop
-check-block-Inv-loop s k found₀ at₀ end₀ found at end =
-    (at ≤ end) × (end ≤ length s) × (blockVerdict k (decodeBlock s) ≡ worse found (rowVerdict k s at end))
+check-block-Inv-loop s k largest found₀ at₀ end₀ found at end =
+    (at ≤ end) × (end ≤ length s) × (blockVerdict k largest (decodeBlock s) ≡ worse found (rowVerdict k largest s at end))
 
 abbrev check-block-μ-loop : check-block-lts.MeasureT-loop
-check-block-μ-loop s k found₀ at₀ end₀ found at end = end - at
+check-block-μ-loop s k largest found₀ at₀ end₀ found at end = end - at
 
 abbrev check-block-calls : ℕ → check-block-lts.Claims
 check-block-calls t = (
@@ -82,7 +82,7 @@ check-block-calls t = (
 
 check-block-loop-holds : (t : ℕ) → check-block-lts.Need-loop-holds (check-block-calls t) (check-block-at t) check-block.Post check-block-Inv-loop check-block-μ-loop
 check-block-loop-holds t c =
-    (omega arith, omega arith, sym (ap (λ (x : List ℕ). blockVerdict (c .before .args .k) (decodeBlock x)) (between-all (c .before .args .s .now))))
+    (omega arith, omega arith, sym (ap (λ (x : List ℕ). blockVerdict (c .before .args .k) (c .before .args .largest) (decodeBlock x)) (between-all (c .before .args .s .now))))
 
 check-block-slice-aggregate-head-at : (t : ℕ) → check-block-lts.Need-slice-aggregate-head-at (check-block-calls t) (check-block-at t) check-block.Post check-block-Inv-loop check-block-μ-loop
 check-block-slice-aggregate-head-at t c =
@@ -105,7 +105,7 @@ check-block-after-requires t c κs = search needs
 first : (t : ℕ) (c : check-block-lts.After-after (check-block-calls t) (check-block-at t) check-block.Post check-block-Inv-loop check-block-μ-loop) → FirstCommand (c .before .before .before .before .before .before .before .before .before .before .args .s .now) (c .before .before .before .before .before .before .before .before .loop .at) (c .before .before .before .before .before .before .before .before .loop .end) (c .after .result)
 first t c =
     let l = c .before .before .before .before .before .before .before .before .loop in
-    row-first (c .before .before .before .before .before .before .before .before .before .before .args .k) (c .before .before .before .before .before .before .before .before .before .before .args .s .now) (l .at) (l .end) (l .inv .1) _ _ (c .after .result) (sym (c .before .before .before .before .before .head-at .ensures) ∙ c .before .before .before .length .given .1) (c .after .ensures)
+    row-first (c .before .before .before .before .before .before .before .before .before .before .args .k) (c .before .before .before .before .before .before .before .before .before .before .args .largest) (c .before .before .before .before .before .before .before .before .before .before .args .s .now) (l .at) (l .end) (l .inv .1) _ _ (c .after .result) (sym (c .before .before .before .before .before .head-at .ensures) ∙ c .before .before .before .length .given .1) (c .after .ensures)
 
 check-block-sub-whole : (t : ℕ) → check-block-lts.Need-sub-whole (check-block-calls t) (check-block-at t) check-block.Post check-block-Inv-loop check-block-μ-loop
 check-block-sub-whole t c = first t c .most
@@ -139,7 +139,7 @@ check-block-check-command-requires t c κs =
     let s = c .before .before .before .before .before .before .before .before .before .before .before .before .args .s .now in
     let l = c .before .before .before .before .before .before .before .before .before .before .loop in
     let f = first t (c .before .before) in
-    (omega (arith, f .most, l .inv .1), first-front (c .before .before .before .before .before .before .before .before .before .before .before .before .args .k) s (l .at) (l .end) (l .inv .1) _ f)
+    (omega (arith, f .most, l .inv .1), first-front (c .before .before .before .before .before .before .before .before .before .before .before .before .args .k) (c .before .before .before .before .before .before .before .before .before .before .before .before .args .largest) s (l .at) (l .end) (l .inv .1) _ f)
 
 check-block-worst-requires-2 : (t : ℕ) → check-block-lts.Need-worst-requires-2 (check-block-calls t) (check-block-at t) check-block.Post check-block-Inv-loop check-block-μ-loop
 check-block-worst-requires-2 t c κs = search needs
@@ -150,13 +150,14 @@ check-block-add-at t c =
     let l = c .before .before .before .before .before .before .before .before .before .before .before .before .before .loop in
     let o = c .before .before .check-command in
     let f = first t (c .before .before .before .before .before) in
-    omega (arith, l .inv .1, f .most, row-inner (c .before .before .before .before .before .before .before .before .before .before .before .before .before .before .before .args .k) s (l .at) (l .end) (l .inv .1) _ f _ (o .result .verdict) (o .result .inner) (o .ensures))
+    omega (arith, l .inv .1, f .most, row-inner (c .before .before .before .before .before .before .before .before .before .before .before .before .before .before .before .args .k) (c .before .before .before .before .before .before .before .before .before .before .before .before .before .before .before .args .largest) s (l .at) (l .end) (l .inv .1) _ f _ (o .result .verdict) (o .result .inner) (o .ensures))
 
 -- a turn, by the way that it went: the rest of the row was checked first, there was none, or the whole command was checked
 turned : (t : ℕ) (c : check-block-lts.After-struct-known (check-block-calls t) (check-block-at t) check-block.Post check-block-Inv-loop check-block-μ-loop)
-    → Turned (c .before .before .before .before .before .before .before .before .before .before .before .before .before .before .before .args .k) (c .before .before .before .before .before .before .before .before .before .before .before .before .before .before .before .args .s .now) (c .before .before .before .before .before .before .before .before .before .before .before .before .before .loop .at) (c .before .before .before .before .before .before .before .before .before .before .before .before .before .loop .end) (c .before .before .before .before .before .before .before .before .before .before .before .before .before .loop .found) (c .before .before .before .before .before .before .before .before .before .before .before .before .before .loop .at + c .before .before .check-command .result .inner) (c .before .before .before .before .if1 .end) (c .before .worst2 .result)
+    → Turned (c .before .before .before .before .before .before .before .before .before .before .before .before .before .before .before .args .k) (c .before .before .before .before .before .before .before .before .before .before .before .before .before .before .before .args .largest) (c .before .before .before .before .before .before .before .before .before .before .before .before .before .before .before .args .s .now) (c .before .before .before .before .before .before .before .before .before .before .before .before .before .loop .at) (c .before .before .before .before .before .before .before .before .before .before .before .before .before .loop .end) (c .before .before .before .before .before .before .before .before .before .before .before .before .before .loop .found) (c .before .before .before .before .before .before .before .before .before .before .before .before .before .loop .at + c .before .before .check-command .result .inner) (c .before .before .before .before .if1 .end) (c .before .worst2 .result)
 turned t c =
     let k = c .before .before .before .before .before .before .before .before .before .before .before .before .before .before .before .args .k in
+    let largest = c .before .before .before .before .before .before .before .before .before .before .before .before .before .before .before .args .largest in
     let s = c .before .before .before .before .before .before .before .before .before .before .before .before .before .before .before .args .s .now in
     let l = c .before .before .before .before .before .before .before .before .before .before .before .before .before .loop in
     let f = first t (c .before .before .before .before .before) in
@@ -164,8 +165,8 @@ turned t c =
     let v = o .result .verdict in
     let found : (x : Verdict) → c .before .before .before .before .if1 .found ≡ x → c .before .worst2 .result ≡ worse x v = λ x e. c .before .worst2 .ensures ∙ ap (λ (y : Verdict). worse y v) e in
     ⊎-elim
-    (λ w. turn-rest k s (l .at) (l .end) (l .inv .1) _ f _ v (o .result .inner) (o .ensures) (l .found) _ _ (found _ (w .5 ∙ w .4 .ensures ∙ ap (worse (l .found)) (w .3 .ensures))) (w .6))
-    (⊎-elim (λ w. turn-last k s (l .at) (l .end) (l .inv .1) _ f _ v (o .result .inner) (o .ensures) (l .found) _ _ (w .1 .left) (found _ (w .2)) (w .3)) (λ w. turn-whole k s (l .at) (l .end) (l .inv .1) _ f _ v (o .result .inner) (o .ensures) (l .found) _ _ (not-false _ (w .0 .left)) (found _ (w .1)) (w .2)))
+    (λ w. turn-rest k largest s (l .at) (l .end) (l .inv .1) _ f _ v (o .result .inner) (o .ensures) (l .found) _ _ (found _ (w .5 ∙ w .4 .ensures ∙ ap (worse (l .found)) (w .3 .ensures))) (w .6))
+    (⊎-elim (λ w. turn-last k largest s (l .at) (l .end) (l .inv .1) _ f _ v (o .result .inner) (o .ensures) (l .found) _ _ (w .1 .left) (found _ (w .2)) (w .3)) (λ w. turn-whole k largest s (l .at) (l .end) (l .inv .1) _ f _ v (o .result .inner) (o .ensures) (l .found) _ _ (not-false _ (w .0 .left)) (found _ (w .1)) (w .2)))
     (c .before .before .before .before .if1 .came)
 
 check-block-loop-less : (t : ℕ) → check-block-lts.Need-loop-less (check-block-calls t) (check-block-at t) check-block.Post check-block-Inv-loop check-block-μ-loop
@@ -181,18 +182,18 @@ check-block-enum-told t c = search needs
 
 check-block-returns : (t : ℕ) → check-block-lts.Need-returns (check-block-calls t) (check-block-at t) check-block.Post check-block-Inv-loop check-block-μ-loop
 check-block-returns t c =
-    absurd (row-left (c .before .before .before .before .before .before .before .args .k) (c .before .before .before .before .before .before .before .args .s .now) (c .before .before .before .before .before .loop .at) (c .before .before .before .before .before .loop .end) (c .before .before .before .before .before .loop .inv .1) (c .before .before .before .before .loop-test .taken) (sym (c .before .before .head-at .ensures) ∙ c .enum-told .given .1))
+    absurd (row-left (c .before .before .before .before .before .before .before .args .k) (c .before .before .before .before .before .before .before .args .largest) (c .before .before .before .before .before .before .before .args .s .now) (c .before .before .before .before .before .loop .at) (c .before .before .before .before .before .loop .end) (c .before .before .before .before .before .loop .inv .1) (c .before .before .before .before .loop-test .taken) (sym (c .before .before .head-at .ensures) ∙ c .enum-told .given .1))
 
 check-block-enum-told-2 : (t : ℕ) → check-block-lts.Need-enum-told-2 (check-block-calls t) (check-block-at t) check-block.Post check-block-Inv-loop check-block-μ-loop
 check-block-enum-told-2 t c = search needs
 
 check-block-returns-2 : (t : ℕ) → check-block-lts.Need-returns-2 (check-block-calls t) (check-block-at t) check-block.Post check-block-Inv-loop check-block-μ-loop
 check-block-returns-2 t c =
-    sym (c .before .before .before .before .before .loop .inv .2 ∙ ap (worse (c .before .before .before .before .before .loop .found)) (row-short (c .before .before .before .before .before .before .before .args .k) (c .before .before .before .before .before .before .before .args .s .now) (c .before .before .before .before .before .loop .at) (c .before .before .before .before .before .loop .end) (c .before .before .before .before .before .loop .inv .1) (c .before .before .before .before .loop-test .taken) (sym (c .before .before .head-at .ensures) ∙ c .enum-told2 .given .1)) ∙ worse-malformed (c .before .before .before .before .before .loop .found))
+    sym (c .before .before .before .before .before .loop .inv .2 ∙ ap (worse (c .before .before .before .before .before .loop .found)) (row-short (c .before .before .before .before .before .before .before .args .k) (c .before .before .before .before .before .before .before .args .largest) (c .before .before .before .before .before .before .before .args .s .now) (c .before .before .before .before .before .loop .at) (c .before .before .before .before .before .loop .end) (c .before .before .before .before .before .loop .inv .1) (c .before .before .before .before .loop-test .taken) (sym (c .before .before .head-at .ensures) ∙ c .enum-told2 .given .1)) ∙ worse-malformed (c .before .before .before .before .before .loop .found))
 
 check-block-returns-3 : (t : ℕ) → check-block-lts.Need-returns-3 (check-block-calls t) (check-block-at t) check-block.Post check-block-Inv-loop check-block-μ-loop
 check-block-returns-3 t c =
-    sym (c .before .loop .inv .2 ∙ ap (worse (c .before .loop .found)) (row-end (c .before .before .before .args .k) (c .before .before .before .args .s .now) (c .before .loop .at) (c .before .loop .end) (c .before .loop .inv .1) (omega arith)) ∙ worse-good (c .before .loop .found))
+    sym (c .before .loop .inv .2 ∙ ap (worse (c .before .loop .found)) (row-end (c .before .before .before .args .k) (c .before .before .before .args .largest) (c .before .before .before .args .s .now) (c .before .loop .at) (c .before .loop .end) (c .before .loop .inv .1) (omega arith)) ∙ worse-good (c .before .loop .found))
 
 abbrev check-command-calls : ℕ → check-command-lts.Claims
 check-command-calls t = (
@@ -226,7 +227,7 @@ check-command-returns : (t : ℕ) → check-command-lts.Need-returns (check-comm
 check-command-returns t c =
     let o = c .before .before .before .before .before .open-command in
     record {
-      opens = opens-all (c .before .before .before .before .before .before .before .args .k) (c .before .before .before .before .before .before .before .args .s .now) _ (c .before .before .before .before .before .before .before .pre .1 .least) (c .worst .ensures ∙ ap (worse (o .result .verdict)) (c .before .check-block .ensures ∙ ap (λ (x : List ℕ). blockVerdict (c .before .before .before .before .before .before .before .args .k) (decodeBlock x)) (between-rest (c .before .before .before .before .before .before .before .args .s .now) (o .result .inner))) ∙ sym (o .ensures .both));
+      opens = opens-all (c .before .before .before .before .before .before .before .args .k) (c .before .before .before .before .before .before .before .args .largest) (c .before .before .before .before .before .before .before .args .s .now) _ (c .before .before .before .before .before .before .before .pre .1 .least) (c .worst .ensures ∙ ap (worse (o .result .verdict)) (c .before .check-block .ensures ∙ ap (λ (x : List ℕ). blockVerdict (c .before .before .before .before .before .before .before .args .k) (c .before .before .before .before .before .before .before .args .largest) (decodeBlock x)) (between-rest (c .before .before .before .before .before .before .before .args .s .now) (o .result .inner))) ∙ sym (o .ensures .both));
       all = λ e. refl;
     }
 

@@ -16,7 +16,7 @@ use Rattle.record.specs.Program.{readExpr}
 
 returns : tie.Need-returns
 returns c =
-    sym (ap (blockVerdict (c .before .before .args .k)) (decode-assign-no (c .before .before .args .s .now) (c .before .before .pre .0) (c .before .before .pre .1) (omega arith)))
+    sym (ap (blockVerdict (c .before .before .args .k) (c .before .before .args .largest)) (decode-assign-no (c .before .before .args .s .now) (c .before .before .pre .0) (c .before .before .pre .1) (omega arith)))
 
 get-u32-requires : tie.Need-get-u32-requires
 get-u32-requires c κs = search needs
@@ -44,7 +44,7 @@ returns-2 c =
     let s = c .before .before .before .before .before .before .before .args .s .now in
     c .worst .ensures
     ∙ ap₂ worse (c .before .before .before .check-variable .ensures ∙ ap (λ (x : ℕ). rated (inRange (c .before .before .before .before .before .before .before .args .k) x)) (c .before .before .before .before .get-u32 .ensures)) (c .before .check-expression .ensures)
-    ∙ sym (ap (blockVerdict (c .before .before .before .before .before .before .before .args .k)) (decode-assign s (c .before .before .before .before .before .before .before .pre .0) (c .before .before .before .before .before .before .before .pre .1) (omega arith)) ∙ assign-verdict (c .before .before .before .before .before .before .before .args .k) (u32 s 4) (only (readExpr (take 8 (drop 8 s)))))
+    ∙ sym (ap (blockVerdict (c .before .before .before .before .before .before .before .args .k) (c .before .before .before .before .before .before .before .args .largest)) (decode-assign s (c .before .before .before .before .before .before .before .pre .0) (c .before .before .before .before .before .before .before .pre .1) (omega arith)) ∙ assign-verdict (c .before .before .before .before .before .before .before .args .k) (c .before .before .before .before .before .before .before .args .largest) (u32 s 4) (only (readExpr (take 8 (drop 8 s)))))
 
 pub check-assignment-spec : {M : Type 1} → statement M
 check-assignment-spec =

@@ -4,10 +4,10 @@ use Rattle.program_checker.proofs.check_bound.Statement.{statement}
 use Rattle.program_checker.proofs.check_bound.Tie as tie
 use mathlib.Core.Path.{ap, sym, _∙_}
 use native.Mathlib.Omega.{arith}
-use Rattle.rules.specs.Scope.{boundInRange, exprInRange}
 use Rattle.record.proofs.ExpressionReadLaws.{bound-expr, bound-no-kind}
 use Rattle.record.specs.Front.{only}
 use Rattle.record.specs.Program.{readBound}
+use Rattle.program_checker.specs.BlockVerdict.{boundRating, exprRating}
 use Rattle.checker.specs.Verdict.{verdict}
 use Rattle.program_checker.proofs.ProgramVerdictLaws.{bound-verdict}
 
@@ -16,7 +16,7 @@ get-u16-requires c κs = search needs
 
 returns : tie.Need-returns
 returns c =
-    sym (ap (verdict (boundInRange (c .before .before .before .args .k))) (bound-no-kind (c .before .before .before .args .s .now) (omega arith)))
+    sym (ap (verdict (boundRating (c .before .before .before .args .k) (c .before .before .before .args .largest))) (bound-no-kind (c .before .before .before .args .s .now) (omega arith)))
 
 check-expression-requires : tie.Need-check-expression-requires
 check-expression-requires c κs = search needs
@@ -24,8 +24,8 @@ check-expression-requires c κs = search needs
 returns-2 : tie.Need-returns-2
 returns-2 c =
     c .check-expression .ensures
-    ∙ ap (verdict (exprInRange (c .before .before .before .before .args .k))) (bound-expr (c .before .before .before .before .args .s .now) (c .before .before .before .before .pre) (omega arith))
-    ∙ bound-verdict (c .before .before .before .before .args .k) (only (readBound (c .before .before .before .before .args .s .now)))
+    ∙ ap (verdict (exprRating (c .before .before .before .before .args .k) (c .before .before .before .before .args .largest))) (bound-expr (c .before .before .before .before .args .s .now) (c .before .before .before .before .pre) (omega arith))
+    ∙ bound-verdict (c .before .before .before .before .args .k) (c .before .before .before .before .args .largest) (only (readBound (c .before .before .before .before .args .s .now)))
 
 pub check-bound-spec : {M : Type 1} → statement M
 check-bound-spec =

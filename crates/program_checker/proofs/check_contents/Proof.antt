@@ -44,11 +44,11 @@ returns : tie.Need-returns
 returns c =
     let s = c .before .before .before .before .before .args .s .now in
     let start = c .before .before .before .before .before .args .start in
-    c .check-block .ensures ∙ ap (blockVerdict (c .before .before .before .before .before .args .k)) (ap decodeBlock (between-rest s (start + 4) ∙ sym (drop-drop 4 start s)) ∙ sym (blockIn-only (drop start s) (sym (c .before .before .before .only-at .ensures) ∙ c .before .before .if1 .taken)))
+    c .check-block .ensures ∙ ap (blockVerdict (c .before .before .before .before .before .args .k) (c .before .before .before .before .before .args .largest)) (ap decodeBlock (between-rest s (start + 4) ∙ sym (drop-drop 4 start s)) ∙ sym (blockIn-only (drop start s) (sym (c .before .before .before .only-at .ensures) ∙ c .before .before .if1 .taken)))
 
 returns-2 : tie.Need-returns-2
 returns-2 c =
-    sym (ap (blockVerdict (c .before .before .before .args .k)) (blockIn-not (drop (c .before .before .before .args .start) (c .before .before .before .args .s .now)) (sym (c .before .only-at .ensures) ∙ c .if1 .left)))
+    sym (ap (blockVerdict (c .before .before .before .args .k) (c .before .before .before .args .largest)) (blockIn-not (drop (c .before .before .before .args .start) (c .before .before .before .args .s .now)) (sym (c .before .only-at .ensures) ∙ c .if1 .left)))
 
 pub check-contents-spec : {M : Type 1} → statement M
 check-contents-spec =

@@ -7,7 +7,9 @@ use native.Mathlib.Omega.{arith}
 use Prim.Native.Nat.{ℕ}
 use mathlib.Core.List.{List}
 use lib.Seq.{length-take-le}
+use Rattle.rules.specs.Literals.{literalsIn, smallValues}
 use Rattle.rules.specs.Scope.{blockInRange}
+use Rattle.rules.specs.Store.{upTo}
 use Rattle.record.specs.Answers.{checkedBy}
 use Rattle.record.specs.Header.{blockIn, program}
 use Rattle.record.proofs.BetweenLaws.{between, drop-take}
@@ -41,6 +43,9 @@ slice-aggregate-check-contents : tie.Need-slice-aggregate-check-contents
 slice-aggregate-check-contents c =
     sym (length-take-le (c .before .before .before .before .before .before .args .used) (c .before .before .before .before .before .before .args .buf .now) (good-buffer _ _ (c .before .before .before .before .before .before .pre) .within))
 
+largest-requires : tie.Need-largest-requires
+largest-requires c κs = search needs
+
 check-contents-requires : tie.Need-check-contents-requires
 check-contents-requires c κs = search needs
 
@@ -52,11 +57,12 @@ answer-requires-2 c κs = search needs
 
 returns-2 : tie.Need-returns-2
 returns-2 c =
-    let h = c .before .before .before .before .before .read-header in
-    let start = c .before .before .before .before .contents-at in
+    let h = c .before .before .before .before .before .before .read-header in
+    let start = c .before .before .before .before .before .contents-at in
+    let largest = c .before .before .before .largest in
     c .answer2 .ensures
-    ∙ ap (λ (n : ℕ). checkedBy n (h .result .k)) (c .before .number-of .ensures ∙ ap numberOf (c .before .before .check-contents .ensures ∙ ap (λ (x : List ℕ). blockVerdict (h .result .k) (blockIn x)) (drop-take (start .result) (c .before .before .before .before .before .before .before .before .before .args .used) (c .before .before .before .before .before .before .before .before .before .args .buf .now))) ∙ number-verdict (blockInRange (h .result .k)) (blockIn (between (c .before .before .before .before .before .before .before .before .before .args .buf .now) (start .result) (c .before .before .before .before .before .before .before .before .before .args .used))))
-    ∙ sym (check-program-contents (c .before .before .before .before .before .before .before .before .before .args .buf .now) (c .before .before .before .before .before .before .before .before .before .args .used) (c .before .before .before .before .before .before .before .before .before .pre) (sym (c .before .before .before .before .before .before .before .check-header .ensures) ∙ c .before .before .before .before .before .before .if1 .left) (h .result) (h .ensures) (start .result) (start .ensures))
+    ∙ ap (λ (n : ℕ). checkedBy n (h .result .k)) (c .before .number-of .ensures ∙ ap numberOf (c .before .before .check-contents .ensures ∙ ap (λ (x : List ℕ). blockVerdict (h .result .k) (largest .result) (blockIn x)) (drop-take (start .result) (c .before .before .before .before .before .before .before .before .before .before .args .used) (c .before .before .before .before .before .before .before .before .before .before .args .buf .now))) ∙ number-verdict (blockInRange (h .result .k)) (λ t. smallValues (upTo (largest .result)) (literalsIn t)) (blockIn (between (c .before .before .before .before .before .before .before .before .before .before .args .buf .now) (start .result) (c .before .before .before .before .before .before .before .before .before .before .args .used))))
+    ∙ sym (check-program-contents (c .before .before .before .before .before .before .before .before .before .before .args .buf .now) (c .before .before .before .before .before .before .before .before .before .before .args .used) (c .before .before .before .before .before .before .before .before .before .before .pre) (sym (c .before .before .before .before .before .before .before .before .check-header .ensures) ∙ c .before .before .before .before .before .before .before .if1 .left) (h .result) (h .ensures) (start .result) (start .ensures) (largest .result) (largest .ensures))
 
 pub check-record-spec : {M : Type 1} → statement M
 check-record-spec =
@@ -68,6 +74,7 @@ check-record-spec =
     read-header-requires
     contents-at-requires
     slice-aggregate-check-contents
+    largest-requires
     check-contents-requires
     number-of-requires
     answer-requires-2

@@ -53,31 +53,31 @@ returns c =
     record {
       least = omega arith;
       most = c .before .before .before .before .before .before .pre .least;
-      both = ap (blockVerdict (c .before .before .before .before .before .before .args .k)) (decode-nest s (c .before .before .before .before .before .before .pre) (omega arith)) ∙ nest-verdict (c .before .before .before .before .before .before .args .k) (decodeBlock (drop 4 s));
+      both = ap (blockVerdict (c .before .before .before .before .before .before .args .k) (c .before .before .before .before .before .before .args .largest)) (decode-nest s (c .before .before .before .before .before .before .pre) (omega arith)) ∙ nest-verdict (c .before .before .before .before .before .before .args .k) (c .before .before .before .before .before .before .args .largest) (decodeBlock (drop 4 s));
     }
 
 returns-2 : tie.Need-returns-2
 returns-2 c =
-    opens-all (c .before .before .before .before .before .before .before .args .k) (c .before .before .before .before .before .before .before .args .s .now) _ (c .before .before .before .before .before .before .before .pre .least) (c .check-assignment .ensures)
+    opens-all (c .before .before .before .before .before .before .before .args .k) (c .before .before .before .before .before .before .before .args .largest) (c .before .before .before .before .before .before .before .args .s .now) _ (c .before .before .before .before .before .before .before .pre .least) (c .check-assignment .ensures)
 
 returns-3 : tie.Need-returns-3
 returns-3 c = search needs
 
 returns-4 : tie.Need-returns-4
 returns-4 c =
-    opens-none (c .before .before .before .before .before .before .before .args .k) (c .before .before .before .before .before .before .before .args .s .now) (c .no-command .ensures) (c .before .before .before .before .before .before .before .pre .least) (decode-other (c .before .before .before .before .before .before .before .args .s .now) (c .before .before .before .before .before .before .before .pre) (omega arith) (omega arith) (omega arith))
+    opens-none (c .before .before .before .before .before .before .before .args .k) (c .before .before .before .before .before .before .before .args .largest) (c .before .before .before .before .before .before .before .args .s .now) (c .no-command .ensures) (c .before .before .before .before .before .before .before .pre .least) (decode-other (c .before .before .before .before .before .before .before .args .s .now) (c .before .before .before .before .before .before .before .pre) (omega arith) (omega arith) (omega arith))
 
 returns-5 : tie.Need-returns-5
 returns-5 c =
-    opens-class (c .before .before .before .before .before .before .args .k) (c .before .before .before .before .before .before .args .s .now) (c .no-command2 .ensures) (c .before .before .before .before .before .before .pre) _ (ap classOf (sym (c .before .before .before .before .get-u16 .ensures .0)) ∙ sym (c .before .before .before .class-of .ensures) ∙ c .before .enum-told2 .given .1) refl
+    opens-class (c .before .before .before .before .before .before .args .k) (c .before .before .before .before .before .before .args .largest) (c .before .before .before .before .before .before .args .s .now) (c .no-command2 .ensures) (c .before .before .before .before .before .before .pre) _ (ap classOf (sym (c .before .before .before .before .get-u16 .ensures .0)) ∙ sym (c .before .before .before .class-of .ensures) ∙ c .before .enum-told2 .given .1) refl
 
 returns-6 : tie.Need-returns-6
 returns-6 c =
-    opens-class (c .before .before .before .before .before .before .args .k) (c .before .before .before .before .before .before .args .s .now) (c .no-command3 .ensures) (c .before .before .before .before .before .before .pre) _ (ap classOf (sym (c .before .before .before .before .get-u16 .ensures .0)) ∙ sym (c .before .before .before .class-of .ensures) ∙ c .before .enum-told3 .given .1) refl
+    opens-class (c .before .before .before .before .before .before .args .k) (c .before .before .before .before .before .before .args .largest) (c .before .before .before .before .before .before .args .s .now) (c .no-command3 .ensures) (c .before .before .before .before .before .before .pre) _ (ap classOf (sym (c .before .before .before .before .get-u16 .ensures .0)) ∙ sym (c .before .before .before .class-of .ensures) ∙ c .before .enum-told3 .given .1) refl
 
 returns-7 : tie.Need-returns-7
 returns-7 c =
-    opens-class (c .before .before .before .before .before .before .args .k) (c .before .before .before .before .before .before .args .s .now) (c .no-command4 .ensures) (c .before .before .before .before .before .before .pre) _ (ap classOf (sym (c .before .before .before .before .get-u16 .ensures .0)) ∙ sym (c .before .before .before .class-of .ensures) ∙ c .before .enum-told4 .given .1) refl
+    opens-class (c .before .before .before .before .before .before .args .k) (c .before .before .before .before .before .before .args .largest) (c .before .before .before .before .before .before .args .s .now) (c .no-command4 .ensures) (c .before .before .before .before .before .before .pre) _ (ap classOf (sym (c .before .before .before .before .get-u16 .ensures .0)) ∙ sym (c .before .before .before .class-of .ensures) ∙ c .before .enum-told4 .given .1) refl
 
 pub open-command-spec : {M : Type 1} → statement M
 open-command-spec =

@@ -21,7 +21,7 @@ no-command-requires c κs = search needs
 
 returns : tie.Need-returns
 returns c =
-    opens-none (c .before .before .before .args .k) (c .before .before .before .args .s .now) (c .no-command .ensures) (c .before .before .before .pre .0 .least) (decode-loop-no (c .before .before .before .args .s .now) (c .before .before .before .pre .0) (c .before .before .before .pre .1) (λ x y. omega arith))
+    opens-none (c .before .before .before .args .k) (c .before .before .before .args .largest) (c .before .before .before .args .s .now) (c .no-command .ensures) (c .before .before .before .pre .0 .least) (decode-loop-no (c .before .before .before .args .s .now) (c .before .before .before .pre .0) (c .before .before .before .pre .1) (λ x y. omega arith))
 
 only-at-requires : tie.Need-only-at-requires
 only-at-requires c κs = search needs
@@ -54,20 +54,21 @@ returns-2 : tie.Need-returns-2
 returns-2 c =
     let s = c .before .before .before .before .before .before .before .before .before .args .s .now in
     let k = c .before .before .before .before .before .before .before .before .before .args .k in
+    let largest = c .before .before .before .before .before .before .before .before .before .args .largest in
     let is-block = sym (c .before .before .before .before .before .before .only-at .ensures) ∙ c .before .before .before .before .before .if2 .taken in
     record {
       least = omega arith;
       most = omega arith;
-      both = ap (blockVerdict k) (decode-loop s (c .before .before .before .before .before .before .before .before .before .pre .0) (c .before .before .before .before .before .before .before .before .before .pre .1) (omega arith) is-block)
-          ∙ loop-verdict k (u32 s 4) (only (readBound (take 8 (drop 8 s)))) (decodeBlock (drop 20 s))
-          ∙ sym (ap (λ (v : Verdict). worse v (blockVerdict k (decodeBlock (drop 20 s)))) (c .worst .ensures ∙ ap₂ worse (c .before .before .before .check-variable .ensures ∙ ap (λ (x : ℕ). rated (inRange k x)) (c .before .before .before .before .get-u32 .ensures)) (c .before .check-bound .ensures)));
+      both = ap (blockVerdict k largest) (decode-loop s (c .before .before .before .before .before .before .before .before .before .pre .0) (c .before .before .before .before .before .before .before .before .before .pre .1) (omega arith) is-block)
+          ∙ loop-verdict k largest (u32 s 4) (only (readBound (take 8 (drop 8 s)))) (decodeBlock (drop 20 s))
+          ∙ sym (ap (λ (v : Verdict). worse v (blockVerdict k largest (decodeBlock (drop 20 s)))) (c .worst .ensures ∙ ap₂ worse (c .before .before .before .check-variable .ensures ∙ ap (λ (x : ℕ). rated (inRange k x)) (c .before .before .before .before .get-u32 .ensures)) (c .before .check-bound .ensures)));
     }
 
 returns-3 : tie.Need-returns-3
 returns-3 c =
     let s = c .before .before .before .before .before .args .s .now in
     let not-only = sym (c .before .before .only-at .ensures) ∙ c .before .if2 .left in
-    opens-none (c .before .before .before .before .before .args .k) s (c .no-command2 .ensures) (c .before .before .before .before .before .pre .0 .least) (decode-loop-no s (c .before .before .before .before .before .pre .0) (c .before .before .before .before .before .pre .1) (λ x y. true-false (sym y ∙ not-only)))
+    opens-none (c .before .before .before .before .before .args .k) (c .before .before .before .before .before .args .largest) s (c .no-command2 .ensures) (c .before .before .before .before .before .pre .0 .least) (decode-loop-no s (c .before .before .before .before .before .pre .0) (c .before .before .before .before .before .pre .1) (λ x y. true-false (sym y ∙ not-only)))
 
 pub open-loop-spec : {M : Type 1} → statement M
 open-loop-spec =

@@ -1,4 +1,4 @@
--- One law for each way out: rows 1 to 5 by the checker, row 7, and the run.
+-- One law for each way out: rows 1 to 5 and 15 by the checker, row 7, and the run.
 use borrow.Author.Needs.{needs}
 use Rattle.reducer.proofs.run_reducer.Statement.{statement}
 use Rattle.reducer.proofs.run_reducer.Tie as tie

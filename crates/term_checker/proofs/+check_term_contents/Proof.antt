@@ -39,11 +39,11 @@ check-term-contents-below t =
     check-term-contents.Pre
 
 abbrev check-term-contents-Inv-loop : check-term-contents-lts.InvT-loop
-check-term-contents-Inv-loop s k found₀ left₀ found left =
-    (termVerdict k (termIn k s) ≡ worse found (termVerdict k (termIn k left))) × (length left ≤ length s)
+check-term-contents-Inv-loop s k largest found₀ left₀ found left =
+    (termVerdict k largest (termIn k s) ≡ worse found (termVerdict k largest (termIn k left))) × (length left ≤ length s)
 
 abbrev check-term-contents-μ-loop : check-term-contents-lts.MeasureT-loop
-check-term-contents-μ-loop s k found₀ left₀ found left = length left
+check-term-contents-μ-loop s k largest found₀ left₀ found left = length left
 
 abbrev check-term-contents-calls : ℕ → check-term-contents-lts.Claims
 check-term-contents-calls t = (
@@ -152,7 +152,7 @@ check-term-contents-loop-again t c =
     let o = rw (c .before .before .before .opened2 .given .1) at (c .before .before .before .before .before .open-term .ensures) in
     let n = c .before .before .before .opened2 .given .0 .1 .0 in
     let l = c .before .before .before .before .before .before .loop .left .now in
-    (worse-turn (c .before .before .before .before .before .before .loop .found) _ _ (c .before .worst2 .result) (c .before .before .before .before .before .before .loop .inv .0) (o .2) (c .before .worst2 .ensures) ∙ ap (λ b. worse (c .before .worst2 .result) (termVerdict (c .before .before .before .before .before .before .before .before .args .k) (termIn (c .before .before .before .before .before .before .before .before .args .k) b))) (sym (take-rest n l)), omega (arith, ap length (take-rest n l) ∙ length-drop n l, c .before .before .before .before .before .before .loop .inv .1))
+    (worse-turn (c .before .before .before .before .before .before .loop .found) _ _ (c .before .worst2 .result) (c .before .before .before .before .before .before .loop .inv .0) (o .2) (c .before .worst2 .ensures) ∙ ap (λ b. worse (c .before .worst2 .result) (termVerdict (c .before .before .before .before .before .before .before .before .args .k) (c .before .before .before .before .before .before .before .before .args .largest) (termIn (c .before .before .before .before .before .before .before .before .args .k) b))) (sym (take-rest n l)), omega (arith, ap length (take-rest n l) ∙ length-drop n l, c .before .before .before .before .before .before .loop .inv .1))
 
 check-term-contents-enum-known-opened-3 :
     (t : ℕ) → check-term-contents-lts.Need-enum-known-opened-3 (check-term-contents-calls t)
@@ -272,7 +272,7 @@ check-term-contents-loop-again-2 t c =
     let o = rw (c .before .before .before .before .before .before .opened3 .given .1) at (c .before .before .before .before .before .before .before .before .open-term .ensures) in
     let n = c .before .before .before .before .before .before .opened3 .given .0 .0 in
     let l = c .before .before .before .before .before .before .before .before .before .loop .left .now in
-    (worse-turn (c .before .before .before .before .before .before .before .before .before .loop .found) _ _ (c .before .worst3 .result) (c .before .before .before .before .before .before .before .before .before .loop .inv .0) (o .2) (c .before .worst3 .ensures ∙ ap (worse (c .before .before .before .before .before .before .before .before .before .loop .found)) (c .before .before .check-term-contents .ensures)) ∙ ap (λ b. worse (c .before .worst3 .result) (termVerdict (c .before .before .before .before .before .before .before .before .before .before .before .args .k) (termIn (c .before .before .before .before .before .before .before .before .before .before .before .args .k) b))) (sym (take-rest n l)), omega (arith, ap length (take-rest n l) ∙ length-drop n l, c .before .before .before .before .before .before .before .before .before .loop .inv .1))
+    (worse-turn (c .before .before .before .before .before .before .before .before .before .loop .found) _ _ (c .before .worst3 .result) (c .before .before .before .before .before .before .before .before .before .loop .inv .0) (o .2) (c .before .worst3 .ensures ∙ ap (worse (c .before .before .before .before .before .before .before .before .before .loop .found)) (c .before .before .check-term-contents .ensures)) ∙ ap (λ b. worse (c .before .worst3 .result) (termVerdict (c .before .before .before .before .before .before .before .before .before .before .before .args .k) (c .before .before .before .before .before .before .before .before .before .before .before .args .largest) (termIn (c .before .before .before .before .before .before .before .before .before .before .before .args .k) b))) (sym (take-rest n l)), omega (arith, ap length (take-rest n l) ∙ length-drop n l, c .before .before .before .before .before .before .before .before .before .loop .inv .1))
 
 check-term-contents-sub-check-term-contents-2 :
     (t : ℕ) → check-term-contents-lts.Need-sub-check-term-contents-2 (check-term-contents-calls t)
@@ -364,9 +364,9 @@ check-term-contents-loop-again-3 t c =
     let o = rw (c .before .before .before .before .before .before .opened3 .given .1) at (c .before .before .before .before .before .before .before .before .open-term .ensures) in
     let n = c .before .before .before .before .before .before .opened3 .given .0 .0 in
     let l = c .before .before .before .before .before .before .before .before .before .loop .left .now in
-    let first = termVerdict (c .before .before .before .before .before .before .before .before .before .before .before .args .k) (termIn (c .before .before .before .before .before .before .before .before .before .before .before .args .k) (take (n - 4) (drop 4 l))) in
-    let last = termVerdict (c .before .before .before .before .before .before .before .before .before .before .before .args .k) (termIn (c .before .before .before .before .before .before .before .before .before .before .before .args .k) (drop n l)) in
-    let call = c .before .before .check-term-contents2 .ensures ∙ ap (λ b. termVerdict (c .before .before .before .before .before .before .before .before .before .before .before .args .k) (termIn (c .before .before .before .before .before .before .before .before .before .before .before .args .k) b)) (take-rest n l) in
+    let first = termVerdict (c .before .before .before .before .before .before .before .before .before .before .before .args .k) (c .before .before .before .before .before .before .before .before .before .before .before .args .largest) (termIn (c .before .before .before .before .before .before .before .before .before .before .before .args .k) (take (n - 4) (drop 4 l))) in
+    let last = termVerdict (c .before .before .before .before .before .before .before .before .before .before .before .args .k) (c .before .before .before .before .before .before .before .before .before .before .before .args .largest) (termIn (c .before .before .before .before .before .before .before .before .before .before .before .args .k) (drop n l)) in
+    let call = c .before .before .check-term-contents2 .ensures ∙ ap (λ b. termVerdict (c .before .before .before .before .before .before .before .before .before .before .before .args .k) (c .before .before .before .before .before .before .before .before .before .before .before .args .largest) (termIn (c .before .before .before .before .before .before .before .before .before .before .before .args .k) b)) (take-rest n l) in
     (worse-turn (c .before .before .before .before .before .before .before .before .before .loop .found) last first (c .before .worst4 .result) (c .before .before .before .before .before .before .before .before .before .loop .inv .0) (o .2 ∙ worse-comm first last) (c .before .worst4 .ensures ∙ ap (worse (c .before .before .before .before .before .before .before .before .before .loop .found)) call), omega (arith, c .left3 .given .2, o .0, o .1, c .before .before .before .before .before .before .before .before .before .loop .inv .1))
 
 pub +check-term-contents-spec : {M : Type 1} → statement M

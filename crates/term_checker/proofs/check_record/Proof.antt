@@ -5,7 +5,9 @@ use Rattle.term_checker.proofs.check_record.Tie as tie
 use mathlib.Core.Path.{ap, sym, _∙_}
 use native.Mathlib.Omega.{arith}
 use Prim.Native.Nat.{ℕ}
+use Rattle.rules.specs.Literals.{numeralsIn, smallValues}
 use Rattle.rules.specs.Scope.{termInRange}
+use Rattle.rules.specs.Store.{upTo}
 use Rattle.record.specs.Answers.{checkedBy}
 use Rattle.record.specs.Header.{termIn, contentsAt, term}
 use Rattle.record.proofs.BetweenLaws.{between}
@@ -53,6 +55,9 @@ part-check-term-contents-end c =
     let b = good-buffer (c .before .before .before .before .before .args .buf .now) (c .before .before .before .before .before .args .used) (c .before .before .before .before .before .pre) in
     omega (arith, b .within, w, c .contents-at .ensures ∙ ap contentsAt (c .before .read-header .ensures))
 
+largest-requires : tie.Need-largest-requires
+largest-requires c κs = search needs
+
 check-term-contents-requires : tie.Need-check-term-contents-requires
 check-term-contents-requires c κs = search needs
 
@@ -65,11 +70,12 @@ answer-requires-2 c κs = search needs
 returns-2 : tie.Need-returns-2
 unfolding termVerdict
 returns-2 c =
-    let h = c .before .before .before .before .before .read-header in
-    let start = c .before .before .before .before .contents-at in
+    let h = c .before .before .before .before .before .before .read-header in
+    let start = c .before .before .before .before .before .contents-at in
+    let largest = c .before .before .before .largest in
     c .answer2 .ensures
-    ∙ ap (λ (n : ℕ). checkedBy n (h .result .k)) (c .before .number-of .ensures ∙ ap numberOf (c .before .before .check-term-contents .ensures) ∙ number-verdict (termInRange (h .result .k)) (termIn (h .result .k) (between (c .before .before .before .before .before .before .before .before .before .args .buf .now) (start .result) (c .before .before .before .before .before .before .before .before .before .args .used))))
-    ∙ sym (check-term-contents (c .before .before .before .before .before .before .before .before .before .args .buf .now) (c .before .before .before .before .before .before .before .before .before .args .used) (c .before .before .before .before .before .before .before .before .before .pre) (sym (c .before .before .before .before .before .before .before .check-header .ensures) ∙ c .before .before .before .before .before .before .if1 .left) (h .result) (h .ensures) (start .result) (start .ensures))
+    ∙ ap (λ (n : ℕ). checkedBy n (h .result .k)) (c .before .number-of .ensures ∙ ap numberOf (c .before .before .check-term-contents .ensures) ∙ number-verdict (termInRange (h .result .k)) (λ t. smallValues (upTo (largest .result)) (numeralsIn t)) (termIn (h .result .k) (between (c .before .before .before .before .before .before .before .before .before .before .args .buf .now) (start .result) (c .before .before .before .before .before .before .before .before .before .before .args .used))))
+    ∙ sym (check-term-contents (c .before .before .before .before .before .before .before .before .before .before .args .buf .now) (c .before .before .before .before .before .before .before .before .before .before .args .used) (c .before .before .before .before .before .before .before .before .before .before .pre) (sym (c .before .before .before .before .before .before .before .before .check-header .ensures) ∙ c .before .before .before .before .before .before .before .if1 .left) (h .result) (h .ensures) (start .result) (start .ensures) (largest .result) (largest .ensures))
 
 pub check-record-spec : {M : Type 1} → statement M
 check-record-spec =
@@ -83,6 +89,7 @@ check-record-spec =
     sub-check-term-contents
     part-check-term-contents-start
     part-check-term-contents-end
+    largest-requires
     check-term-contents-requires
     number-of-requires
     answer-requires-2

@@ -4,7 +4,7 @@ use Rattle.term_checker.proofs.check_simple.Tie as tie
 use mathlib.Core.Logic.{⊎-elim}
 use mathlib.Core.Path.{ap, sym, _∙_}
 use native.Mathlib.Omega.{arith}
-use Rattle.rules.specs.Scope.{atomInRange, simpleInRange}
+use Rattle.term_checker.specs.TermVerdict.{atomRating, simpleRating}
 use Rattle.record.specs.Term.{onlyAtom}
 use Rattle.reader.proofs.HeadLaws.{record-tells}
 use Rattle.checker.specs.Verdict.{verdict}
@@ -35,7 +35,7 @@ returns : tie.Need-returns
 returns c =
     let a = c .before .before .before .before .before .before .before .before .before .before .args in
     let kind = stands-kind (a .s .now) (a .at) _ _ (sym (c .before .before .before .before .before .before .before .before .head-at .ensures) ∙ c .before .before .before .before .before .before .kind .given .1) in
-    sym (wrapped-verdict (a .k) (recordAt (a .s .now) (a .at)) (omega (arith, kind, c .before .before .before .before .if1 .left, c .before .before .before .if2 .taken)) (omega (arith, kind, c .before .before .before .before .if1 .left, c .before .before .before .if2 .taken)) ∙ verdict-none (atomInRange (a .k)) _ (atom-none _ (inner-none (a .s .now) (a .at) (λ q. c .if3 .taken (c .before .before .after .ensures ∙ q ∙ sym (c .before .after2 .ensures))))))
+    sym (wrapped-verdict (a .k) (a .largest) (recordAt (a .s .now) (a .at)) (omega (arith, kind, c .before .before .before .before .if1 .left, c .before .before .before .if2 .taken)) (omega (arith, kind, c .before .before .before .before .if1 .left, c .before .before .before .if2 .taken)) ∙ verdict-none (atomRating (a .k) (a .largest)) _ (atom-none _ (inner-none (a .s .now) (a .at) (λ q. c .if3 .taken (c .before .before .after .ensures ∙ q ∙ sym (c .before .after2 .ensures))))))
 
 add-check-atom : tie.Need-add-check-atom
 add-check-atom c =
@@ -59,23 +59,23 @@ returns-2 c =
     let a = c .before .before .before .before .before .before .before .before .before .before .before .args in
     let kind = stands-kind (a .s .now) (a .at) _ _ (sym (c .before .before .before .before .before .before .before .before .before .head-at .ensures) ∙ c .before .before .before .before .before .before .before .kind .given .1) in
     c .check-atom .ensures
-    ∙ ap (λ b. verdict (atomInRange (a .k)) (onlyAtom b)) (inner-record (a .s .now) (a .at) (sym (c .before .before .before .after .ensures) ∙ c .before .if3 .left ∙ c .before .before .after2 .ensures))
-    ∙ sym (wrapped-verdict (a .k) (recordAt (a .s .now) (a .at)) (omega (arith, kind, c .before .before .before .before .before .if1 .left, c .before .before .before .before .if2 .taken)) (omega (arith, kind, c .before .before .before .before .before .if1 .left, c .before .before .before .before .if2 .taken)))
+    ∙ ap (λ b. verdict (atomRating (a .k) (a .largest)) (onlyAtom b)) (inner-record (a .s .now) (a .at) (sym (c .before .before .before .after .ensures) ∙ c .before .if3 .left ∙ c .before .before .after2 .ensures))
+    ∙ sym (wrapped-verdict (a .k) (a .largest) (recordAt (a .s .now) (a .at)) (omega (arith, kind, c .before .before .before .before .before .if1 .left, c .before .before .before .before .if2 .taken)) (omega (arith, kind, c .before .before .before .before .before .if1 .left, c .before .before .before .before .if2 .taken)))
 
 returns-3 : tie.Need-returns-3
 returns-3 c =
     let a = c .before .before .before .before .before .before .before .args in
     let kind = stands-kind (a .s .now) (a .at) _ _ (sym (c .before .before .before .before .before .head-at .ensures) ∙ c .before .before .before .kind .given .1) in
     c .check-atom2 .ensures
-    ∙ sym (plain-verdict (a .k) (recordAt (a .s .now) (a .at)) (λ e. ⊎-elim (λ w. omega arith) (λ w. omega arith) (c .before .if1 .came)) (λ e. ⊎-elim (λ w. omega arith) (λ w. omega arith) (c .before .if1 .came)))
+    ∙ sym (plain-verdict (a .k) (a .largest) (recordAt (a .s .now) (a .at)) (λ e. ⊎-elim (λ w. omega arith) (λ w. omega arith) (c .before .if1 .came)) (λ e. ⊎-elim (λ w. omega arith) (λ w. omega arith) (c .before .if1 .came)))
 
 returns-4 : tie.Need-returns-4
 returns-4 c =
-    sym (verdict-none (simpleInRange (c .before .before .before .before .args .k)) _ (simple-none _ (none-end (c .before .before .before .before .args .s .now) (c .before .before .before .before .args .at) (sym (c .before .before .head-at .ensures) ∙ c .enum-told .given .1))))
+    sym (verdict-none (simpleRating (c .before .before .before .before .args .k) (c .before .before .before .before .args .largest)) _ (simple-none _ (none-end (c .before .before .before .before .args .s .now) (c .before .before .before .before .args .at) (sym (c .before .before .head-at .ensures) ∙ c .enum-told .given .1))))
 
 returns-5 : tie.Need-returns-5
 returns-5 c =
-    sym (verdict-none (simpleInRange (c .before .before .before .before .args .k)) _ (simple-none _ (none-short (c .before .before .before .before .args .s .now) (c .before .before .before .before .args .at) (sym (c .before .before .head-at .ensures) ∙ c .enum-told2 .given .1))))
+    sym (verdict-none (simpleRating (c .before .before .before .before .args .k) (c .before .before .before .before .args .largest)) _ (simple-none _ (none-short (c .before .before .before .before .args .s .now) (c .before .before .before .before .args .at) (sym (c .before .before .head-at .ensures) ∙ c .enum-told2 .given .1))))
 
 pub check-simple-spec : {M : Type 1} → statement M
 check-simple-spec =

@@ -4,8 +4,8 @@ use Rattle.term_checker.proofs.check_tuple.Tie as tie
 use Prim.Native.Nat.{_+_, _-_, ℕ}
 use mathlib.Core.Path.{ap, sym, _∙_}
 use native.Mathlib.Omega.{arith}
+use Rattle.term_checker.specs.TermVerdict.{atomsRating}
 use Rattle.buffer.specs.Slice.{part}
-use Rattle.rules.specs.Scope.{atomsInRange}
 use Rattle.record.specs.Term.{decodeAtoms}
 use Rattle.record.proofs.TermReadLaws.{onlyTuple-other}
 use Rattle.reader.proofs.HeadLaws.{next-record, record-tells}
@@ -24,7 +24,7 @@ returns : tie.Need-returns
 returns c =
     let a = c .before .before .before .before .before .before .args in
     let kind = stands-kind (a .s .now) (a .at) _ _ (sym (c .before .before .before .before .head-at .ensures) ∙ c .before .before .kind .given .1) in
-    sym (verdict-none (atomsInRange (a .k)) _ (onlyTuple-other (a .k) _ (λ q. c .if1 .taken (sym kind ∙ q))))
+    sym (verdict-none (atomsRating (a .k) (a .largest)) _ (onlyTuple-other (a .k) _ (λ q. c .if1 .taken (sym kind ∙ q))))
 
 add-check-atoms : tie.Need-add-check-atoms
 add-check-atoms c =
@@ -52,16 +52,16 @@ returns-2 c =
     let a = c .before .before .before .before .before .before .before .before .args in
     let kind = stands-kind (a .s .now) (a .at) _ _ (sym (c .before .before .before .before .before .before .head-at .ensures) ∙ c .before .before .before .before .kind .given .1) in
     c .check-atoms .ensures
-    ∙ ap (λ (m : ℕ). verdict (atomsInRange (a .k)) (decodeAtoms (a .k) (part (a .s .now) (a .at + 4) (m - (a .at + 4))))) (c .before .after .ensures)
-    ∙ ap (verdict (atomsInRange (a .k))) (sym (tuple-walk (a .s .now) (a .at) (a .k) (kind ∙ c .before .before .if1 .left)))
+    ∙ ap (λ (m : ℕ). verdict (atomsRating (a .k) (a .largest)) (decodeAtoms (a .k) (part (a .s .now) (a .at + 4) (m - (a .at + 4))))) (c .before .after .ensures)
+    ∙ ap (verdict (atomsRating (a .k) (a .largest))) (sym (tuple-walk (a .s .now) (a .at) (a .k) (kind ∙ c .before .before .if1 .left)))
 
 returns-3 : tie.Need-returns-3
 returns-3 c =
-    sym (verdict-none (atomsInRange (c .before .before .before .before .args .k)) _ (tuple-none _ (none-end (c .before .before .before .before .args .s .now) (c .before .before .before .before .args .at) (sym (c .before .before .head-at .ensures) ∙ c .enum-told .given .1)) (c .before .before .before .before .args .k)))
+    sym (verdict-none (atomsRating (c .before .before .before .before .args .k) (c .before .before .before .before .args .largest)) _ (tuple-none _ (none-end (c .before .before .before .before .args .s .now) (c .before .before .before .before .args .at) (sym (c .before .before .head-at .ensures) ∙ c .enum-told .given .1)) (c .before .before .before .before .args .k)))
 
 returns-4 : tie.Need-returns-4
 returns-4 c =
-    sym (verdict-none (atomsInRange (c .before .before .before .before .args .k)) _ (tuple-none _ (none-short (c .before .before .before .before .args .s .now) (c .before .before .before .before .args .at) (sym (c .before .before .head-at .ensures) ∙ c .enum-told2 .given .1)) (c .before .before .before .before .args .k)))
+    sym (verdict-none (atomsRating (c .before .before .before .before .args .k) (c .before .before .before .before .args .largest)) _ (tuple-none _ (none-short (c .before .before .before .before .args .s .now) (c .before .before .before .before .args .at) (sym (c .before .before .head-at .ensures) ∙ c .enum-told2 .given .1)) (c .before .before .before .before .args .k)))
 
 pub check-tuple-spec : {M : Type 1} → statement M
 check-tuple-spec =

@@ -35,7 +35,7 @@ enum-told-4 c = search needs
 
 returns : tie.Need-returns
 returns c =
-    tuple-opens (c .before .before .before .before .before .before .args .k) (c .before .before .before .before .before .before .args .s .now) (c .check-tuple .result) (c .before .before .before .before .before .before .pre ∙ c .before .match2 .keys1) (c .check-tuple .ensures)
+    tuple-opens (c .before .before .before .before .before .before .args .k) (c .before .before .before .before .before .before .args .largest) (c .before .before .before .before .before .before .args .s .now) (c .check-tuple .result) (c .before .before .before .before .before .before .pre ∙ c .before .match2 .keys1) (c .check-tuple .ensures)
 
 returns-2 : tie.Need-returns-2
 returns-2 c = search needs
@@ -48,19 +48,19 @@ returns-4 c = search needs
 
 returns-5 : tie.Need-returns-5
 returns-5 c =
-    none-opens (c .before .before .before .before .before .args .k) (c .before .before .before .before .before .args .s .now) (term-other (c .before .before .before .before .before .args .k) (c .before .before .before .before .before .args .s .now) (λ e. omega (arith, e, c .before .before .before .before .before .pre, c .match2 .rest)) (λ e. omega (arith, e, c .before .before .before .before .before .pre, c .match2 .rest)) (λ e. omega (arith, e, c .before .before .before .before .before .pre, c .match2 .rest)) (λ e. omega (arith, e, c .before .before .before .before .before .pre, c .match2 .rest)))
+    none-opens (c .before .before .before .before .before .args .k) (c .before .before .before .before .before .args .largest) (c .before .before .before .before .before .args .s .now) (term-other (c .before .before .before .before .before .args .k) (c .before .before .before .before .before .args .s .now) (λ e. omega (arith, e, c .before .before .before .before .before .pre, c .match2 .rest)) (λ e. omega (arith, e, c .before .before .before .before .before .pre, c .match2 .rest)) (λ e. omega (arith, e, c .before .before .before .before .before .pre, c .match2 .rest)) (λ e. omega (arith, e, c .before .before .before .before .before .pre, c .match2 .rest)))
 
 returns-6 : tie.Need-returns-6
 returns-6 c =
-    class-opens (c .before .before .before .before .args .k) (c .before .before .before .before .args .s .now) (c .before .before .before .before .args .kind) _ (c .before .before .before .before .pre) (sym (c .before .before .class-of .ensures) ∙ c .enum-told2 .given .1) refl
+    class-opens (c .before .before .before .before .args .k) (c .before .before .before .before .args .largest) (c .before .before .before .before .args .s .now) (c .before .before .before .before .args .kind) _ (c .before .before .before .before .pre) (sym (c .before .before .class-of .ensures) ∙ c .enum-told2 .given .1) refl
 
 returns-7 : tie.Need-returns-7
 returns-7 c =
-    class-opens (c .before .before .before .before .args .k) (c .before .before .before .before .args .s .now) (c .before .before .before .before .args .kind) _ (c .before .before .before .before .pre) (sym (c .before .before .class-of .ensures) ∙ c .enum-told3 .given .1) refl
+    class-opens (c .before .before .before .before .args .k) (c .before .before .before .before .args .largest) (c .before .before .before .before .args .s .now) (c .before .before .before .before .args .kind) _ (c .before .before .before .before .pre) (sym (c .before .before .class-of .ensures) ∙ c .enum-told3 .given .1) refl
 
 returns-8 : tie.Need-returns-8
 returns-8 c =
-    class-opens (c .before .before .before .before .args .k) (c .before .before .before .before .args .s .now) (c .before .before .before .before .args .kind) _ (c .before .before .before .before .pre) (sym (c .before .before .class-of .ensures) ∙ c .enum-told4 .given .1) refl
+    class-opens (c .before .before .before .before .args .k) (c .before .before .before .before .args .largest) (c .before .before .before .before .args .s .now) (c .before .before .before .before .args .kind) _ (c .before .before .before .before .pre) (sym (c .before .before .class-of .ensures) ∙ c .enum-told4 .given .1) refl
 
 pub open-kind-spec : {M : Type 1} → statement M
 open-kind-spec =

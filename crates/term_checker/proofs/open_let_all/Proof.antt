@@ -8,7 +8,7 @@ after-requires c κs = search needs
 
 returns : tie.Need-returns
 returns c =
-    letAll-opens (c .before .before .args .k) (c .before .before .args .s .now) (c .before .before .pre) (c .after .ensures)
+    letAll-opens (c .before .before .args .k) (c .before .before .args .largest) (c .before .before .args .s .now) (c .before .before .pre) (c .after .ensures)
 
 pub open-let-all-spec : {M : Type 1} → statement M
 open-let-all-spec = tie.close (tie.spec after-requires returns)

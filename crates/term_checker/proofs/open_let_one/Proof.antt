@@ -12,7 +12,7 @@ after-requires c κs = search needs
 
 returns : tie.Need-returns
 returns c =
-    none-opens (c .before .before .before .args .k) (c .before .before .before .args .s .now) (letOne-stays (c .before .before .before .args .k) (c .before .before .before .args .s .now) (c .before .before .before .pre) (sym (c .before .after .ensures) ∙ c .if1 .taken))
+    none-opens (c .before .before .before .args .k) (c .before .before .before .args .largest) (c .before .before .before .args .s .now) (letOne-stays (c .before .before .before .args .k) (c .before .before .before .args .s .now) (c .before .before .before .pre) (sym (c .before .after .ensures) ∙ c .if1 .taken))
 
 get-u32-requires : tie.Need-get-u32-requires
 get-u32-requires c κs =
@@ -30,7 +30,7 @@ worst-requires c κs = search needs
 returns-2 : tie.Need-returns-2
 returns-2 c =
     let inside = moved-inside (c .before .before .before .before .before .before .before .args .s .now) 8 (λ q. c .before .before .before .before .if1 .left (c .before .before .before .before .before .after .ensures ∙ q)) in
-    letOne-opens (c .before .before .before .before .before .before .before .args .k) (c .before .before .before .before .before .before .before .args .s .now) (c .before .before .before .before .before .before .before .pre) (omega (arith, inside)) (c .before .before .before .get-u32 .ensures) (c .before .before .check-variable .ensures) (c .before .check-simple .ensures) (c .worst .ensures) (c .before .before .before .before .before .after .ensures)
+    letOne-opens (c .before .before .before .before .before .before .before .args .k) (c .before .before .before .before .before .before .before .args .largest) (c .before .before .before .before .before .before .before .args .s .now) (c .before .before .before .before .before .before .before .pre) (omega (arith, inside)) (c .before .before .before .get-u32 .ensures) (c .before .before .check-variable .ensures) (c .before .check-simple .ensures) (c .worst .ensures) (c .before .before .before .before .before .after .ensures)
 
 pub open-let-one-spec : {M : Type 1} → statement M
 open-let-one-spec =

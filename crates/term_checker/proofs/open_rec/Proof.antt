@@ -13,14 +13,14 @@ after-requires c κs = search needs
 
 returns : tie.Need-returns
 returns c =
-    none-opens (c .before .before .before .args .k) (c .before .before .before .args .s .now) (rec-stays (c .before .before .before .args .k) (c .before .before .before .args .s .now) (c .before .before .before .pre) (λ count start. c .if1 .taken (c .before .after .ensures ∙ count)))
+    none-opens (c .before .before .before .args .k) (c .before .before .before .args .largest) (c .before .before .before .args .s .now) (rec-stays (c .before .before .before .args .k) (c .before .before .before .args .s .now) (c .before .before .before .pre) (λ count start. c .if1 .taken (c .before .after .ensures ∙ count)))
 
 after-requires-2 : tie.Need-after-requires-2
 after-requires-2 c κs = search needs
 
 returns-2 : tie.Need-returns-2
 returns-2 c =
-    none-opens (c .before .before .before .before .before .args .k) (c .before .before .before .before .before .args .s .now) (rec-stays (c .before .before .before .before .before .args .k) (c .before .before .before .before .before .args .s .now) (c .before .before .before .before .before .pre) (λ count start. start (ap (nextAt (c .before .before .before .before .before .args .s .now)) (sym (c .before .before .before .after .ensures)) ∙ sym (c .before .after2 .ensures) ∙ c .if2 .taken ∙ c .before .before .before .after .ensures)))
+    none-opens (c .before .before .before .before .before .args .k) (c .before .before .before .before .before .args .largest) (c .before .before .before .before .before .args .s .now) (rec-stays (c .before .before .before .before .before .args .k) (c .before .before .before .before .before .args .s .now) (c .before .before .before .before .before .pre) (λ count start. start (ap (nextAt (c .before .before .before .before .before .args .s .now)) (sym (c .before .before .before .after .ensures)) ∙ sym (c .before .after2 .ensures) ∙ c .if2 .taken ∙ c .before .before .before .after .ensures)))
 
 get-u32-requires : tie.Need-get-u32-requires
 get-u32-requires c κs =
@@ -44,7 +44,7 @@ worst-requires-2 c κs = search needs
 returns-3 : tie.Need-returns-3
 returns-3 c =
     let inside = moved-inside (c .before .before .before .before .before .before .before .before .before .before .before .args .s .now) 8 (λ q. omega (arith, q, c .before .before .before .before .before .before .before .before .before .after .ensures, c .before .before .before .before .before .before .before .before .if1 .left)) in
-    rec-opens (c .before .before .before .before .before .before .before .before .before .before .before .args .k) (c .before .before .before .before .before .before .before .before .before .before .before .args .s .now) (c .before .before .before .before .before .before .before .before .before .before .before .pre) (omega (arith, inside)) (c .before .before .before .before .before .get-u32 .ensures) (c .before .before .before .before .check-variable .ensures) (c .before .before .before .check-atom .ensures) (c .before .before .worst .ensures) (c .before .before .before .before .before .before .before .before .before .after .ensures) (c .before .check-tuple .ensures) (c .worst2 .ensures) (c .before .before .before .before .before .before .before .after2 .ensures)
+    rec-opens (c .before .before .before .before .before .before .before .before .before .before .before .args .k) (c .before .before .before .before .before .before .before .before .before .before .before .args .largest) (c .before .before .before .before .before .before .before .before .before .before .before .args .s .now) (c .before .before .before .before .before .before .before .before .before .before .before .pre) (omega (arith, inside)) (c .before .before .before .before .before .get-u32 .ensures) (c .before .before .before .before .check-variable .ensures) (c .before .before .before .check-atom .ensures) (c .before .before .worst .ensures) (c .before .before .before .before .before .before .before .before .before .after .ensures) (c .before .check-tuple .ensures) (c .worst2 .ensures) (c .before .before .before .before .before .before .before .after2 .ensures)
 
 pub open-rec-spec : {M : Type 1} → statement M
 open-rec-spec =

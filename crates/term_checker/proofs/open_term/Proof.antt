@@ -14,7 +14,7 @@ enum-known-length c = search needs
 
 returns : tie.Need-returns
 returns c =
-    none-opens (c .before .before .before .before .before .before .args .k) (c .before .before .before .before .before .before .args .s .now) (term-none _ (more-kind (c .before .before .before .before .before .before .args .s .now) _ _ (sym (c .before .before .before .before .head-at .ensures) ∙ c .before .before .length .given .1) (c .if1 .taken)) (c .before .before .before .before .before .before .args .k))
+    none-opens (c .before .before .before .before .before .before .args .k) (c .before .before .before .before .before .before .args .largest) (c .before .before .before .before .before .before .args .s .now) (term-none _ (more-kind (c .before .before .before .before .before .before .args .s .now) _ _ (sym (c .before .before .before .before .head-at .ensures) ∙ c .before .before .length .given .1) (c .if1 .taken)) (c .before .before .before .before .before .before .args .k))
 
 open-kind-requires : tie.Need-open-kind-requires
 open-kind-requires c κs =
@@ -31,11 +31,11 @@ returns-2 c = search needs
 
 returns-3 : tie.Need-returns-3
 returns-3 c =
-    none-opens (c .before .before .before .before .args .k) (c .before .before .before .before .args .s .now) (term-none _ (end-kind (c .before .before .before .before .args .s .now) (sym (c .before .before .head-at .ensures) ∙ c .enum-told .given .1)) (c .before .before .before .before .args .k))
+    none-opens (c .before .before .before .before .args .k) (c .before .before .before .before .args .largest) (c .before .before .before .before .args .s .now) (term-none _ (end-kind (c .before .before .before .before .args .s .now) (sym (c .before .before .head-at .ensures) ∙ c .enum-told .given .1)) (c .before .before .before .before .args .k))
 
 returns-4 : tie.Need-returns-4
 returns-4 c =
-    none-opens (c .before .before .before .before .args .k) (c .before .before .before .before .args .s .now) (term-none _ (short-kind (c .before .before .before .before .args .s .now) (sym (c .before .before .head-at .ensures) ∙ c .enum-told2 .given .1)) (c .before .before .before .before .args .k))
+    none-opens (c .before .before .before .before .args .k) (c .before .before .before .before .args .largest) (c .before .before .before .before .args .s .now) (term-none _ (short-kind (c .before .before .before .before .args .s .now) (sym (c .before .before .head-at .ensures) ∙ c .enum-told2 .given .1)) (c .before .before .before .before .args .k))
 
 pub open-term-spec : {M : Type 1} → statement M
 open-term-spec =

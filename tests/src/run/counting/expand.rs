@@ -2,7 +2,7 @@
 //! loop of 4,294,967,295 turns expands to more bytes than any machine has.
 
 use super::{Open, Spot, Turn};
-use crate::codec::command_len;
+use crate::codec::{command_len, header_len};
 use crate::tree::{Block, Bound, Command, Expr, Program, Value, Variable};
 
 /// What is left of the block, what is open in it expanded.
@@ -50,10 +50,10 @@ fn turn_of(before: Option<Command>, index: Variable, count: Value, body: &Block)
     turn
 }
 
-/// The length of the expansion's record: its header of 8 bytes, the outermost block's head of 4, and
-/// its commands.
+/// The length of the expansion's record: the program's own header, the outermost block's head of 4 bytes,
+/// and its commands.
 pub fn record_len(program: &Program, spot: &Spot) -> u64 {
-    12 + left_len(&program.block, spot)
+    header_len(program.header) as u64 + 4 + left_len(&program.block, spot)
 }
 
 /// The lengths of the commands of [`block`], added up.

@@ -6,9 +6,11 @@ use Rattle.batch.proofs.job.run_jobs.Lts as lts
 use Rattle.batch.proofs.job.run_job.Reads as run-job-reads
 use mathlib.Core.Path.{_∙_, _≡_, refl}
 use native.Mathlib.Omega.{arith}
+use Rattle.record.specs.Header.{okOf}
+use Rattle.rules.proofs.LiteralsLaws.{small-drop, small-take}
 use borrow.Author.Needs.{needs}
 use Prim.Native.Nat.{_*_, _+_, _-_, _≤_}
-use lib.ListN.{length, take}
+use lib.ListN.{drop, length, take}
 use Rattle.batch.proofs.AnswersLaws.{Done, done-start, done-turn, done-whole, row-fits, rows-small}
 
 abbrev Inv-loop : tie.InvT-loop
@@ -89,12 +91,14 @@ part-run-job-start-2 c = omega arith
 
 part-run-job-end-2 : tie.Need-part-run-job-end-2 Inv-loop μ-loop
 part-run-job-end-2 c =
-    omega (arith, row-fits (c .before .before .before .before .loop .i) (length (c .before .before .before .before .before .before .before .before .before .before .before .args .budgets .now)) (c .before .before .before .before .before .before .before .before .before .before .before .args .h .k + 2) (c .before .before .before .loop-test .taken), c .before .before .before .before .before .before .before .before .before .before .before .pre .3, c .before .before .before .before .loop .inv .2)
+    omega (arith, row-fits (c .before .before .before .before .loop .i) (length (c .before .before .before .before .before .before .before .before .before .before .before .args .budgets .now)) (c .before .before .before .before .before .before .before .before .before .before .before .args .h .k + 2) (c .before .before .before .loop-test .taken), c .before .before .before .before .before .before .before .before .before .before .before .pre .4, c .before .before .before .before .loop .inv .2)
 
 run-job-requires : tie.Need-run-job-requires Inv-loop μ-loop
 run-job-requires c κs =
     let g = c .before .before .before .before .before .before .before .before .before .before .before .before .pre .0 .1 in
-    ((c .before .before .before .before .before .before .before .before .before .before .before .before .pre .0 .0, record { holds = g .holds; fits = omega (arith, g .fits, c .before .before .before .before .before .loop .inv .1); low = omega (arith, g .low, c .before .before .before .before .before .loop .inv .1) }), omega (arith, c .before .before .run-job-arg2 .given .2), omega (arith, c .run-job-arg3 .given .2))
+    let a = c .before .before .before .before .before .before .before .before .before .before .before .before .args in
+    let from = c .before .before .before .before .before .loop .i * a .h .k in
+    ((c .before .before .before .before .before .before .before .before .before .before .before .before .pre .0 .0, record { holds = g .holds; fits = omega (arith, g .fits, c .before .before .before .before .before .loop .inv .1); low = omega (arith, g .low, c .before .before .before .before .before .loop .inv .1) }), omega (arith, c .before .before .run-job-arg2 .given .2), small-take (okOf (a .h)) (from + a .h .k - from) (drop from (a .values .now)) (small-drop (okOf (a .h)) from (a .values .now) (c .before .before .before .before .before .before .before .before .before .before .before .before .pre .3)), omega (arith, c .run-job-arg3 .given .2))
 
 add-i : tie.Need-add-i Inv-loop μ-loop
 add-i c = search needs
@@ -105,7 +109,7 @@ loop-less c = search needs
 loop-again : tie.Need-loop-again Inv-loop μ-loop
 loop-again c =
     let k = c .before .before .before .before .before .before .before .before .before .before .before .before .before .before .before .before .before .args .h .k in
-    let fits : c .before .before .before .before .before .before .before .before .before .before .loop .i * (k + 2) ≤ length (c .before .before .before .before .before .before .before .before .before .before .loop .answers) = omega (arith, row-fits (c .before .before .before .before .before .before .before .before .before .before .loop .i) (length (c .before .before .before .before .before .before .before .before .before .before .before .before .before .before .before .before .before .args .budgets .now)) (k + 2) (c .before .before .before .before .before .before .before .before .before .loop-test .taken), c .before .before .before .before .before .before .before .before .before .before .before .before .before .before .before .before .before .pre .3, c .before .before .before .before .before .before .before .before .before .before .loop .inv .2) in (
+    let fits : c .before .before .before .before .before .before .before .before .before .before .loop .i * (k + 2) ≤ length (c .before .before .before .before .before .before .before .before .before .before .loop .answers) = omega (arith, row-fits (c .before .before .before .before .before .before .before .before .before .before .loop .i) (length (c .before .before .before .before .before .before .before .before .before .before .before .before .before .before .before .before .before .args .budgets .now)) (k + 2) (c .before .before .before .before .before .before .before .before .before .loop-test .taken), c .before .before .before .before .before .before .before .before .before .before .before .before .before .before .before .before .before .pre .4, c .before .before .before .before .before .before .before .before .before .before .loop .inv .2) in (
       omega arith,
       c .before .before .before .work .given ∙ c .before .before .before .before .before .before .before .before .before .before .loop .inv .1,
       c .before .answers .given .1 ∙ c .before .before .before .before .before .before .before .before .before .before .loop .inv .2,
@@ -120,7 +124,7 @@ same-length-2 c = c .before .loop .inv .2
 
 returns : tie.Need-returns Inv-loop μ-loop
 returns c =
-    done-whole (c .before .before .before .before .before .before .before .before .args .h .k) (take (c .before .before .before .before .before .before .before .before .args .used) (c .before .before .before .before .before .before .before .before .args .term .now)) (length (c .before .before .before .before .before .before .before .before .args .work .now)) (c .before .before .before .before .before .before .before .before .args .budgets .now) (c .before .before .before .before .before .before .before .before .args .values .now) (c .before .loop .i) (omega arith) (c .before .loop .answers) (c .before .loop .inv .2 ∙ c .before .before .before .before .before .before .before .before .pre .3) (c .before .loop .inv .3)
+    done-whole (c .before .before .before .before .before .before .before .before .args .h .k) (take (c .before .before .before .before .before .before .before .before .args .used) (c .before .before .before .before .before .before .before .before .args .term .now)) (length (c .before .before .before .before .before .before .before .before .args .work .now)) (c .before .before .before .before .before .before .before .before .args .budgets .now) (c .before .before .before .before .before .before .before .before .args .values .now) (c .before .loop .i) (omega arith) (c .before .loop .answers) (c .before .loop .inv .2 ∙ c .before .before .before .before .before .before .before .before .pre .4) (c .before .loop .inv .3)
 
 pub run-jobs-spec : {M : Type 1} → statement M
 run-jobs-spec =

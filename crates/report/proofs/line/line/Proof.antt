@@ -2,16 +2,28 @@
 use borrow.Author.Needs.{needs}
 use Rattle.report.proofs.line.line.Statement.{statement}
 use Rattle.report.proofs.line.line.Tie as tie
+use Rattle.report.proofs.line.line.Reads as reads
+use Rattle.report.proofs.line.line.Lts as lts
+use Rattle.buffer.proofs.get_u16.Reads as get-u16-reads
+use Rattle.buffer.proofs.zero.Reads as zero-reads
+use Rattle.checker.proofs.some_above.Reads as some-above-reads
+use Rattle.print.proofs.put_refused.Reads as put-refused-reads
+use Rattle.record.proofs.Header.largest.Reads as largest-reads
+use Rattle.record.proofs.read_header.Reads as read-header-reads
+use Rattle.report.proofs.input.check_input.Reads as check-input-reads
+use Rattle.report.proofs.input.read_values.Reads as read-values-reads
+use Rattle.report.proofs.line.run_both.Reads as run-both-reads
+use Rattle.term.proofs.translate.translate.Reads as translate-reads
 use native.Mathlib.Omega.{arith}
 use mathlib.Core.Path.{_∙_, ap, sym}
 use Prim.Native.Nat.{ℕ}
 use lib.Seq.{length-take-le}
 use Rattle.checker.specs.Answer.{asChecked}
-use Rattle.report.proofs.LineLaws.{input-passes, input-refused, runs-line, said-is, translate-refuses, values-made, values-there}
-use Rattle.report.specs.Line.{programBudget, programBuffer, reducerFrom, runsLine, valuesIn}
+use Rattle.record.specs.Header.{headerIn}
+use Rattle.record.proofs.HeaderLaws.{contentsAt-high}
+use Rattle.report.proofs.LineLaws.{input-passes, input-refused, runs-line, said-is, translate-refuses, values-fit, store-read, values-made, values-refused, values-there}
+use Rattle.report.specs.Line.{programBuffer}
 use Rattle.term.specs.Answer.{asWrote}
-use Rattle.stepper.specs.RunStepper.{runStepper}
-use Rattle.term.specs.Calls.{substituteCall}
 
 check-input-requires : tie.Need-check-input-requires
 check-input-requires c κs = c .before .before .before .before .pre .0
@@ -55,28 +67,33 @@ returns-2 c = (
   omega (arith, c .before .before .put-refused2 .ensures .1),
 )
 
-get-u16-requires : tie.Need-get-u16-requires
-unfolding programBuffer
-get-u16-requires c κs =
-    omega (arith, c .before .before .before .before .before .before .before .before .before .before .pre .0)
+cast-values : tie.Need-cast-values
+cast-values c = search needs
 
-slice-reshare-prefix-translate : tie.Need-slice-reshare-prefix-translate
-unfolding programBuffer
-slice-reshare-prefix-translate c =
-    omega (arith, c .before .before .before .before .before .before .before .before .before .before .before .pre .0, c .get-u16 .ensures .0, c .before .before .before .before .before .before .check-input .ensures .1 (c .before .before .before .before .if1 .left) .0)
+array-borrow-prefix-values : tie.Need-array-borrow-prefix-values
+array-borrow-prefix-values c = c .before .before .before .before .before .check-input .ensures .1 (c .before .before .before .if1 .left) .1
 
-slice-aggregate-translate : tie.Need-slice-aggregate-translate
-unfolding programBuffer
-slice-aggregate-translate c =
-    sym (length-take-le (c .before .get-u16 .result) (c .before .before .before .before .before .before .before .before .before .before .before .before .args .a .now) (omega (arith, c .before .before .before .before .before .before .before .before .before .before .before .before .pre .0, c .before .get-u16 .ensures .0, c .before .before .before .before .before .before .before .check-input .ensures .1 (c .before .before .before .before .before .if1 .left) .0)))
+slice-aggregate-store : tie.Need-slice-aggregate-store
+slice-aggregate-store c = sym (values-made (c .before .before .before .before .before .before .check-input .result .k) (c .before .before .before .before .before .before .check-input .ensures .1 (c .before .before .before .before .if1 .left) .1))
 
-translate-requires : tie.Need-translate-requires
-translate-requires c κs = search needs
+read-values-requires : tie.Need-read-values-requires
+read-values-requires c κs = omega (arith, values-made (c .before .before .before .before .before .before .before .check-input .result .k) (c .before .before .before .before .before .before .before .check-input .ensures .1 (c .before .before .before .before .before .if1 .left) .1), c .before .before .before .if2 .left)
+
+read-header-requires : tie.Need-read-header-requires
+unfolding programBuffer
+read-header-requires c κs =
+    omega (arith, contentsAt-high (headerIn (c .before .before .before .before .before .before .before .before .before .before .before .before .before .before .before .before .before .args .a .now)), c .before .before .before .before .before .before .before .before .before .before .before .before .before .before .before .before .before .pre .0)
+
+largest-requires : tie.Need-largest-requires
+largest-requires c κs = search needs
+
+some-above-requires : tie.Need-some-above-requires
+some-above-requires c κs = search needs
 
 put-refused-requires-3 : tie.Need-put-refused-requires-3
 unfolding programBuffer
 put-refused-requires-3 c κs =
-    omega (arith, c .before .before .before .before .before .before .before .before .before .before .before .before .before .before .before .before .before .before .before .pre .1, c .before .before .before .before .before .translate .kept .1 .1 .0)
+    omega (arith, c .before .before .before .before .before .before .before .before .before .before .before .before .before .before .before .before .before .before .before .before .before .before .before .pre .1)
 
 same-length-5 : tie.Need-same-length-5
 same-length-5 c = search needs
@@ -87,40 +104,34 @@ same-length-6 c = search needs
 returns-3 : tie.Need-returns-3
 returns-3 c = (
   (λ input h.
-      let p = input-passes input (asChecked (c .before .before .before .before .before .before .before .before .before .before .before .before .before .before .before .before .before .check-input .result)) (c .before .before .before .before .before .before .before .before .before .before .before .before .before .before .before .before .before .check-input .ensures .0 input (h .lead)) (c .before .before .before .before .before .before .before .before .before .before .before .before .before .before .before .if1 .left) in
-      c .before .before .put-refused3 .ensures .0 ∙ sym (translate-refuses h p (c .before .before .before .before .before .before .before .before .before .before .before .get-u16 .result) (said-is h p (c .before .before .before .before .before .before .before .before .before .before .before .get-u16 .result) (c .before .before .before .before .before .before .before .before .before .before .before .get-u16 .ensures .0)) (asWrote (c .before .before .before .before .before .before .before .before .translate .result) (c .before .before .before .before .before .before .before .before .translate .last .1 .1 .0)) (c .before .before .before .before .before .before .before .before .translate .ensures) (c .before .before .before .before .if3 .taken))),
+      let p = input-passes input (asChecked (c .before .before .before .before .before .before .before .before .before .before .before .before .before .before .before .before .before .before .before .before .before .check-input .result)) (c .before .before .before .before .before .before .before .before .before .before .before .before .before .before .before .before .before .before .before .before .before .check-input .ensures .0 input (h .lead)) (c .before .before .before .before .before .before .before .before .before .before .before .before .before .before .before .before .before .before .before .if1 .left) in
+      let r = store-read h p (c .before .before .before .before .before .before .before .before .before .before .before .before .before .read-values .last .1 .0) (c .before .before .before .before .before .before .before .before .before .before .before .before .before .read-values .ensures) in
+      c .before .before .put-refused3 .ensures .0 ∙ sym (values-refused h p (c .before .before .before .before .before .before .before .before .read-header .result) (c .before .before .before .before .before .before .before .before .read-header .ensures) (c .before .before .before .before .before .before .before .largest .result) (c .before .before .before .before .before .before .before .largest .ensures) (c .before .before .before .before .before .before .before .before .before .before .before .before .before .read-values .last .1 .0) r (c .before .before .before .before .before .before .some-above .result) (c .before .before .before .before .before .before .some-above .ensures) (c .before .before .before .before .before .if3 .taken))),
   omega (arith, c .before .before .put-refused3 .ensures .1),
 )
 
-sub-zero : tie.Need-sub-zero
+get-u16-requires : tie.Need-get-u16-requires
 unfolding programBuffer
-sub-zero c =
-    omega (arith, c .before .before .before .before .before .before .before .before .before .before .before .before .before .before .before .before .before .before .before .pre .0, c .before .before .before .before .before .before .before .before .get-u16 .ensures .0, c .before .before .before .before .before .before .before .before .before .before .before .before .before .before .check-input .ensures .1 (c .before .before .before .before .before .before .before .before .before .before .before .before .if1 .left) .0)
+get-u16-requires c κs =
+    omega (arith, c .before .before .before .before .before .before .before .before .before .before .before .before .before .before .before .before .before .before .before .before .before .before .pre .0)
 
-zero-requires : tie.Need-zero-requires
+slice-reshare-prefix-translate : tie.Need-slice-reshare-prefix-translate
 unfolding programBuffer
-zero-requires c κs =
-    omega (arith, c .before .before .before .before .before .before .before .before .before .before .before .before .before .before .before .before .before .before .before .pre .0, c .before .before .before .before .before .before .before .before .get-u16 .ensures .0, c .before .before .before .before .before .before .before .before .before .before .before .before .before .before .check-input .ensures .1 (c .before .before .before .before .before .before .before .before .before .before .before .before .if1 .left) .0)
+slice-reshare-prefix-translate c =
+    omega (arith, c .before .before .before .before .before .before .before .before .before .before .before .before .before .before .before .before .before .before .before .before .before .before .before .pre .0, c .get-u16 .ensures .0, c .before .before .before .before .before .before .before .before .before .before .before .before .before .before .before .before .before .before .check-input .ensures .1 (c .before .before .before .before .before .before .before .before .before .before .before .before .before .before .before .before .if1 .left) .0)
 
-cast-run-both : tie.Need-cast-run-both
-cast-run-both c = search needs
+slice-aggregate-translate : tie.Need-slice-aggregate-translate
+unfolding programBuffer
+slice-aggregate-translate c =
+    sym (length-take-le (c .before .get-u16 .result) (c .before .before .before .before .before .before .before .before .before .before .before .before .before .before .before .before .before .before .before .before .before .before .before .before .args .a .now) (omega (arith, c .before .before .before .before .before .before .before .before .before .before .before .before .before .before .before .before .before .before .before .before .before .before .before .before .pre .0, c .before .get-u16 .ensures .0, c .before .before .before .before .before .before .before .before .before .before .before .before .before .before .before .before .before .before .before .check-input .ensures .1 (c .before .before .before .before .before .before .before .before .before .before .before .before .before .before .before .before .before .if1 .left) .0)))
 
-cast-store : tie.Need-cast-store
-cast-store c = search needs
+translate-requires : tie.Need-translate-requires
+translate-requires c κs = search needs
 
-array-borrow-prefix-store : tie.Need-array-borrow-prefix-store
-array-borrow-prefix-store c =
-    c .before .before .before .before .before .before .before .before .before .before .before .before .before .before .before .before .before .before .before .before .before .check-input .ensures .1 (c .before .before .before .before .before .before .before .before .before .before .before .before .before .before .before .before .before .before .before .if1 .left) .1
-
-slice-aggregate-run-both : tie.Need-slice-aggregate-run-both
-slice-aggregate-run-both c =
-    sym (values-made (c .before .before .before .before .before .before .before .before .before .before .before .before .before .before .before .before .before .before .before .before .before .before .check-input .result .k) (c .before .before .before .before .before .before .before .before .before .before .before .before .before .before .before .before .before .before .before .before .before .before .check-input .ensures .1 (c .before .before .before .before .before .before .before .before .before .before .before .before .before .before .before .before .before .before .before .before .if1 .left) .1))
-
-run-both-requires : tie.Need-run-both-requires
-run-both-requires c κs =
-    let l = c .before .before .before .before .before .before .before .before .before .before .before .before .before .before .before .before .before .before .before .before .before .before .check-input .ensures .1 (c .before .before .before .before .before .before .before .before .before .before .before .before .before .before .before .before .before .before .before .before .if1 .left) .1 in
-    let m = values-made (c .before .before .before .before .before .before .before .before .before .before .before .before .before .before .before .before .before .before .before .before .before .before .check-input .result .k) l in
-    (c .before .before .before .before .before .before .before .before .before .before .before .before .before .translate .kept .1 .1 .0 ∙ c .before .before .before .before .before .before .before .before .before .before .before .before .before .before .before .before .before .before .before .before .before .before .before .before .before .before .before .pre .1, omega (arith, l, m), omega (arith, m, c .before .before .before .before .before .before .before .before .before .before .before .before .before .before .before .before .before .before .if2 .left))
+put-refused-requires-4 : tie.Need-put-refused-requires-4
+unfolding programBuffer
+put-refused-requires-4 c κs =
+    omega (arith, c .before .before .before .before .before .before .before .before .before .before .before .before .before .before .before .before .before .before .before .before .before .before .before .before .before .before .before .before .before .before .before .before .pre .1, c .before .before .before .before .before .before .translate .kept .1 .1 .0)
 
 same-length-7 : tie.Need-same-length-7
 same-length-7 c = search needs
@@ -131,14 +142,48 @@ same-length-8 c = search needs
 returns-4 : tie.Need-returns-4
 returns-4 c = (
   (λ input h.
-      let p = input-passes input (asChecked (c .before .before .before .before .before .before .before .before .before .before .before .before .before .before .before .before .before .before .before .before .before .before .before .before .before .before .before .before .check-input .result)) (c .before .before .before .before .before .before .before .before .before .before .before .before .before .before .before .before .before .before .before .before .before .before .before .before .before .before .before .before .check-input .ensures .0 input (h .lead)) (c .before .before .before .before .before .before .before .before .before .before .before .before .before .before .before .before .before .before .before .before .before .before .before .before .before .before .if1 .left) in
-      let s = c .before .before .before .before .before .before .before .before .before .before .before .before .before .before .before .before .before .before .before .before .before .before .get-u16 .result in
-      let t = asWrote (c .before .before .before .before .before .before .before .before .before .before .before .before .before .before .before .before .before .before .before .translate .result) (c .before .before .before .before .before .before .before .before .before .before .before .before .before .before .before .before .before .before .before .translate .last .1 .1 .0) in
-      let vs = c .before .before .before .before .before .before .before .before .before .before .before .before .before .before .before .before .before .before .before .before .before .before .before .before .before .before .before .before .before .before .before .before .before .args .behind .now in
-      let a₁ = c .before .before .before .before .before .before .before .before .before .before .before .before .before .zero .last .0 in
+      let p = input-passes input (asChecked (c .before .before .before .before .before .before .before .before .before .before .before .before .before .before .before .before .before .before .before .before .before .before .before .before .before .before .before .before .before .before .check-input .result)) (c .before .before .before .before .before .before .before .before .before .before .before .before .before .before .before .before .before .before .before .before .before .before .before .before .before .before .before .before .before .before .check-input .ensures .0 input (h .lead)) (c .before .before .before .before .before .before .before .before .before .before .before .before .before .before .before .before .before .before .before .before .before .before .before .before .before .before .before .before .if1 .left) in
+      let r = store-read h p (c .before .before .before .before .before .before .before .before .before .before .before .before .before .before .before .before .before .before .before .before .before .before .read-values .last .1 .0) (c .before .before .before .before .before .before .before .before .before .before .before .before .before .before .before .before .before .before .before .before .before .before .read-values .ensures) in
+      let fits = values-fit h p (c .before .before .before .before .before .before .before .before .before .before .before .before .before .before .before .before .before .read-header .result) (c .before .before .before .before .before .before .before .before .before .before .before .before .before .before .before .before .before .read-header .ensures) (c .before .before .before .before .before .before .before .before .before .before .before .before .before .before .before .before .largest .result) (c .before .before .before .before .before .before .before .before .before .before .before .before .before .before .before .before .largest .ensures) (c .before .before .before .before .before .before .before .before .before .before .before .before .before .before .before .before .before .before .before .before .before .before .read-values .last .1 .0) r (c .before .before .before .before .before .before .before .before .before .before .before .before .before .before .before .some-above .result) (c .before .before .before .before .before .before .before .before .before .before .before .before .before .before .before .some-above .ensures) (c .before .before .before .before .before .before .before .before .before .before .before .before .before .before .if3 .left) in
+      let s = c .before .before .before .before .before .before .before .before .before .before .before .before .get-u16 .result in
+      c .before .before .put-refused4 .ensures .0 ∙ sym (translate-refuses h p fits s (said-is h p s (c .before .before .before .before .before .before .before .before .before .before .before .before .get-u16 .ensures .0)) (asWrote (c .before .before .before .before .before .before .before .before .before .translate .result) (c .before .before .before .before .before .before .before .before .before .translate .last .1 .1 .0)) (c .before .before .before .before .before .before .before .before .before .translate .ensures) (c .before .before .before .before .before .if4 .taken))),
+  omega (arith, c .before .before .put-refused4 .ensures .1),
+)
+
+sub-zero : tie.Need-sub-zero
+unfolding programBuffer
+sub-zero c =
+    omega (arith, c .before .before .before .before .before .before .before .before .before .before .before .before .before .before .before .before .before .before .before .before .before .before .before .before .before .before .before .before .before .before .before .pre .0, c .before .before .before .before .before .before .before .before .get-u16 .ensures .0, c .before .before .before .before .before .before .before .before .before .before .before .before .before .before .before .before .before .before .before .before .before .before .before .before .before .before .check-input .ensures .1 (c .before .before .before .before .before .before .before .before .before .before .before .before .before .before .before .before .before .before .before .before .before .before .before .before .if1 .left) .0)
+
+zero-requires : tie.Need-zero-requires
+unfolding programBuffer
+zero-requires c κs =
+    omega (arith, c .before .before .before .before .before .before .before .before .before .before .before .before .before .before .before .before .before .before .before .before .before .before .before .before .before .before .before .before .before .before .before .pre .0, c .before .before .before .before .before .before .before .before .get-u16 .ensures .0, c .before .before .before .before .before .before .before .before .before .before .before .before .before .before .before .before .before .before .before .before .before .before .before .before .before .before .check-input .ensures .1 (c .before .before .before .before .before .before .before .before .before .before .before .before .before .before .before .before .before .before .before .before .before .before .before .before .if1 .left) .0)
+
+cast-run-both : tie.Need-cast-run-both
+cast-run-both c = search needs
+
+run-both-requires : tie.Need-run-both-requires
+run-both-requires c κs =
+    let l = c .before .before .before .before .before .before .before .before .before .before .before .before .before .before .before .before .before .before .before .before .before .before .before .before .before .before .before .before .before .before .before .before .check-input .ensures .1 (c .before .before .before .before .before .before .before .before .before .before .before .before .before .before .before .before .before .before .before .before .before .before .before .before .before .before .before .before .before .before .if1 .left) .1 in
+    (c .before .before .before .before .before .before .before .before .before .before .before .translate .kept .1 .1 .0 ∙ c .before .before .before .before .before .before .before .before .before .before .before .before .before .before .before .before .before .before .before .before .before .before .before .before .before .before .before .before .before .before .before .before .before .before .before .before .before .pre .1, omega (arith, l, values-made (c .before .before .before .before .before .before .before .before .before .before .before .before .before .before .before .before .before .before .before .before .before .before .before .before .before .before .before .before .before .before .before .before .check-input .result .k) l, c .before .before .before .before .before .before .before .before .before .before .before .before .before .before .before .before .before .before .before .before .before .before .before .before .read-values .kept .1 .0))
+
+same-length-9 : tie.Need-same-length-9
+same-length-9 c = search needs
+
+same-length-10 : tie.Need-same-length-10
+same-length-10 c = search needs
+
+returns-5 : tie.Need-returns-5
+returns-5 c = (
+  (λ input h.
+      let p = input-passes input (asChecked (c .before .before .before .before .before .before .before .before .before .before .before .before .before .before .before .before .before .before .before .before .before .before .before .before .before .before .before .before .before .before .before .before .before .before .before .before .before .before .check-input .result)) (c .before .before .before .before .before .before .before .before .before .before .before .before .before .before .before .before .before .before .before .before .before .before .before .before .before .before .before .before .before .before .before .before .before .before .before .before .before .before .check-input .ensures .0 input (h .lead)) (c .before .before .before .before .before .before .before .before .before .before .before .before .before .before .before .before .before .before .before .before .before .before .before .before .before .before .before .before .before .before .before .before .before .before .before .before .if1 .left) in
+      let r = store-read h p (c .before .before .before .before .before .before .before .before .before .before .before .before .before .before .before .before .before .before .before .before .before .before .before .before .before .before .before .before .before .before .read-values .last .1 .0) (c .before .before .before .before .before .before .before .before .before .before .before .before .before .before .before .before .before .before .before .before .before .before .before .before .before .before .before .before .before .before .read-values .ensures) in
+      let fits = values-fit h p (c .before .before .before .before .before .before .before .before .before .before .before .before .before .before .before .before .before .before .before .before .before .before .before .before .before .read-header .result) (c .before .before .before .before .before .before .before .before .before .before .before .before .before .before .before .before .before .before .before .before .before .before .before .before .before .read-header .ensures) (c .before .before .before .before .before .before .before .before .before .before .before .before .before .before .before .before .before .before .before .before .before .before .before .before .largest .result) (c .before .before .before .before .before .before .before .before .before .before .before .before .before .before .before .before .before .before .before .before .before .before .before .before .largest .ensures) (c .before .before .before .before .before .before .before .before .before .before .before .before .before .before .before .before .before .before .before .before .before .before .before .before .before .before .before .before .before .before .read-values .last .1 .0) r (c .before .before .before .before .before .before .before .before .before .before .before .before .before .before .before .before .before .before .before .before .before .before .before .some-above .result) (c .before .before .before .before .before .before .before .before .before .before .before .before .before .before .before .before .before .before .before .before .before .before .before .some-above .ensures) (c .before .before .before .before .before .before .before .before .before .before .before .before .before .before .before .before .before .before .before .before .before .before .if3 .left) in
+      let s = c .before .before .before .before .before .before .before .before .before .before .before .before .before .before .before .before .before .before .before .before .get-u16 .result in
+      let t = asWrote (c .before .before .before .before .before .before .before .before .before .before .before .before .before .before .before .before .before .translate .result) (c .before .before .before .before .before .before .before .before .before .before .before .before .before .before .before .before .before .translate .last .1 .1 .0) in
       c .before .before .before .before .before .run-both .ensures .0
-      ∙ ap (λ (n : ℕ). runsLine (runStepper a₁ s (valuesIn n vs) programBudget) (reducerFrom (substituteCall (t .written) (t .used) (valuesIn n vs)))) (values-made (c .before .before .before .before .before .before .before .before .before .before .before .before .before .before .before .before .before .before .before .before .before .before .before .before .before .before .before .before .check-input .result .k) (p .low))
-      ∙ runs-line h p s (said-is h p s (c .before .before .before .before .before .before .before .before .before .before .before .before .before .before .before .before .before .before .before .before .before .before .get-u16 .ensures .0)) t (c .before .before .before .before .before .before .before .before .before .before .before .before .before .before .before .before .before .before .before .translate .ensures) (c .before .before .before .before .before .before .before .before .before .before .before .before .before .before .before .if3 .left) a₁ (c .before .before .before .before .before .before .before .before .before .before .before .before .before .zero .ensures)),
+      ∙ runs-line h p fits s (said-is h p s (c .before .before .before .before .before .before .before .before .before .before .before .before .before .before .before .before .before .before .before .before .get-u16 .ensures .0)) t (c .before .before .before .before .before .before .before .before .before .before .before .before .before .before .before .before .before .translate .ensures) (c .before .before .before .before .before .before .before .before .before .before .before .before .before .if4 .left) (c .before .before .before .before .before .before .before .before .before .before .before .zero .last .0) (c .before .before .before .before .before .before .before .before .before .before .before .zero .ensures) (c .before .before .before .before .before .before .before .before .before .before .before .before .before .before .before .before .before .before .before .before .before .before .before .before .before .before .before .before .before .before .read-values .last .1 .0) r),
   c .before .before .before .before .before .run-both .ensures .1,
 )
 
@@ -157,21 +202,29 @@ line-spec =
     same-length-3
     same-length-4
     returns-2
-    get-u16-requires
-    slice-reshare-prefix-translate
-    slice-aggregate-translate
-    translate-requires
+    cast-values
+    array-borrow-prefix-values
+    slice-aggregate-store
+    read-values-requires
+    read-header-requires
+    largest-requires
+    some-above-requires
     put-refused-requires-3
     same-length-5
     same-length-6
     returns-3
+    get-u16-requires
+    slice-reshare-prefix-translate
+    slice-aggregate-translate
+    translate-requires
+    put-refused-requires-4
+    same-length-7
+    same-length-8
+    returns-4
     sub-zero
     zero-requires
     cast-run-both
-    cast-store
-    array-borrow-prefix-store
-    slice-aggregate-run-both
     run-both-requires
-    same-length-7
-    same-length-8
-    returns-4)
+    same-length-9
+    same-length-10
+    returns-5)

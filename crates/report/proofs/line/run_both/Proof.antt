@@ -2,16 +2,18 @@
 use borrow.Author.Needs.{needs}
 use Rattle.report.proofs.line.run_both.Statement.{statement}
 use Rattle.report.proofs.line.run_both.Tie as tie
+use Rattle.report.proofs.line.run_both.Reads as reads
+use Rattle.report.proofs.line.run_both.Lts as lts
+use Rattle.print.proofs.put_ran.Reads as put-ran-reads
+use Rattle.reducer.proofs.run_reducer.Reads as run-reducer-reads
+use Rattle.stepper.proofs.run_stepper.Reads as run-stepper-reads
+use Rattle.term.proofs.substitute.substitute.Reads as substitute-reads
 use native.Mathlib.Omega.{arith}
 use mathlib.Core.Path.{_∙_}
 use Rattle.report.proofs.LineLaws.{runs-answer}
-use Rattle.report.specs.Line.{programBudget, programBuffer, valuesIn}
+use Rattle.report.specs.Line.{programBudget, programBuffer}
 use Rattle.term.specs.Answer.{asSubstituted}
 use Rattle.run.specs.Represents.{asRunAnswer}
-use lib.ListN.{length}
-
-read-values-requires : tie.Need-read-values-requires
-read-values-requires c κs = search needs
 
 substitute-requires : tie.Need-substitute-requires
 substitute-requires c κs = search needs
@@ -28,7 +30,7 @@ run-reducer-requires c κs = search needs
 put-ran-requires : tie.Need-put-ran-requires
 unfolding programBuffer
 put-ran-requires c κs =
-    omega (arith, c .before .before .before .before .before .before .before .before .before .before .before .before .before .before .before .before .before .before .before .before .before .before .before .before .before .before .before .pre .0, c .before .before .before .before .before .before .before .before .before .before .before .before .before .before .before .before .before .before .before .before .before .before .before .before .before .before .before .pre .1, c .before .before .before .before .before .before .before .before .before .before .before .before .before .before .before .before .before .before .before .before .before .read-values .kept .1 .0, c .before .before .before .before .before .before .before .before .before .before .before .before .before .before .before .before .substitute .kept .0, c .before .before .before .before .before .before .before .before .before .before .before .run-stepper .kept .1 .1 .0, c .before .before .before .before .run-reducer .kept .0)
+    omega (arith, c .before .before .before .before .before .before .before .before .before .before .before .before .before .before .before .before .before .before .before .before .before .before .pre .0, c .before .before .before .before .before .before .before .before .before .before .before .before .before .before .before .before .before .before .before .before .before .before .pre .1, c .before .before .before .before .before .before .before .before .before .before .before .before .before .before .before .before .substitute .kept .0, c .before .before .before .before .before .before .before .before .before .before .before .run-stepper .kept .1 .1 .0, c .before .before .before .before .run-reducer .kept .0)
 
 same-length : tie.Need-same-length
 same-length c = search needs
@@ -37,24 +39,22 @@ same-length-2 : tie.Need-same-length-2
 same-length-2 c = search needs
 
 same-length-3 : tie.Need-same-length-3
-same-length-3 c =
-    c .before .before .before .before .before .before .before .before .before .before .before .before .before .before .run-stepper .kept .1 .1 .0 ∙ c .before .before .before .before .before .before .before .before .before .before .before .before .before .before .before .before .before .before .before .before .before .before .before .before .read-values .kept .1 .0
+same-length-3 c = search needs
 
 returns : tie.Need-returns
 unfolding programBudget
 returns c = (
   c .before .before .put-ran .ensures .0
-      ∙ runs-answer (c .before .before .before .before .before .before .before .before .before .before .before .before .before .before .before .before .before .before .before .before .before .before .before .before .before .before .before .before .before .before .args .a .now) (c .before .before .before .before .before .before .before .before .before .before .before .before .before .before .before .before .before .before .before .before .before .before .before .before .before .before .before .before .before .before .args .said) (c .before .before .before .before .before .before .before .before .before .before .before .before .before .before .before .before .before .before .before .before .before .before .before .before .before .before .before .before .before .before .args .b .now) (c .before .before .before .before .before .before .before .before .before .before .before .before .before .before .before .before .before .before .before .before .before .before .before .before .before .before .before .before .before .before .args .used) (valuesIn (length (c .before .before .before .before .before .before .before .before .before .before .before .before .before .before .before .before .before .before .before .before .before .before .before .before .before .before .before .before .before .before .args .store .now)) (c .before .before .before .before .before .before .before .before .before .before .before .before .before .before .before .before .before .before .before .before .before .before .before .before .before .before .before .before .before .before .args .behind .now)) (c .before .before .before .before .before .before .before .before .before .before .before .before .before .before .before .before .before .before .before .before .before .before .before .before .read-values .last .1 .0) (c .before .before .before .before .before .before .before .before .before .before .before .before .before .before .run-stepper .last .1 .1 .0)
+      ∙ runs-answer (c .before .before .before .before .before .before .before .before .before .before .before .before .before .before .before .before .before .before .before .before .before .before .before .before .before .args .a .now) (c .before .before .before .before .before .before .before .before .before .before .before .before .before .before .before .before .before .before .before .before .before .before .before .before .before .args .said) (c .before .before .before .before .before .before .before .before .before .before .before .before .before .before .before .before .before .before .before .before .before .before .before .before .before .args .b .now) (c .before .before .before .before .before .before .before .before .before .before .before .before .before .before .before .before .before .before .before .before .before .before .before .before .before .args .used) (c .before .before .before .before .before .before .before .before .before .before .before .before .before .before .before .before .before .before .before .before .before .before .before .before .before .args .store .now) (c .before .before .before .before .before .before .before .before .before .before .before .before .before .before .run-stepper .last .1 .1 .0)
       (asSubstituted (c .before .before .before .before .before .before .before .before .before .before .before .before .before .before .before .before .before .before .before .substitute .result) (c .before .before .before .before .before .before .before .before .before .before .before .before .before .before .before .before .before .before .before .substitute .last .0)) (asRunAnswer (c .before .before .before .before .before .before .before .before .before .before .before .before .before .before .run-stepper .result)) (asRunAnswer (c .before .before .before .before .before .before .before .run-reducer .result .end))
-      (c .before .before .before .before .before .before .before .before .before .before .before .before .before .before .before .before .before .before .before .before .before .before .before .before .read-values .ensures) (c .before .before .before .before .before .before .before .before .before .before .before .before .before .before .before .before .before .before .before .substitute .ensures) (c .before .before .before .before .before .before .before .before .before .before .before .before .before .before .run-stepper .ensures .0) (c .before .before .before .before .before .before .before .before .before .before .before .before .before .before .run-stepper .ensures .2) (c .before .before .before .before .before .before .before .run-reducer .ensures .0),
-  omega (arith, c .before .before .before .before .before .before .before .before .before .before .before .before .before .before .before .before .before .before .before .before .before .before .before .before .before .before .before .before .before .before .pre .1, c .before .before .put-ran .ensures .1, c .before .before .before .before .before .before .before .before .before .before .before .before .before .before .before .before .before .before .before .before .before .before .before .before .read-values .kept .1 .0, c .before .before .before .before .before .before .before .before .before .before .before .before .before .before .run-stepper .kept .1 .1 .0),
+      (c .before .before .before .before .before .before .before .before .before .before .before .before .before .before .before .before .before .before .before .substitute .ensures) (c .before .before .before .before .before .before .before .before .before .before .before .before .before .before .run-stepper .ensures .0) (c .before .before .before .before .before .before .before .before .before .before .before .before .before .before .run-stepper .ensures .2) (c .before .before .before .before .before .before .before .run-reducer .ensures .0),
+  omega (arith, c .before .before .before .before .before .before .before .before .before .before .before .before .before .before .before .before .before .before .before .before .before .before .before .before .before .pre .1, c .before .before .put-ran .ensures .1, c .before .before .before .before .before .before .before .before .before .before .before .before .before .before .run-stepper .kept .1 .1 .0),
 )
 
 pub run-both-spec : {M : Type 1} → statement M
 run-both-spec =
     tie.close
     (tie.spec
-    read-values-requires
     substitute-requires
     run-stepper-requires
     cast-run-reducer
