@@ -2,7 +2,7 @@
 use Prim.Native.Nat.{_+_, _≤_, ℕ}
 use mathlib.Core.Path.{ap, refl, sym, _∙_, _≡_}
 use mathlib.Core.Logic.{inl, inr, _⊎_}
-use mathlib.Core.Bool.{Bool, false, not, true, _&&_}
+use mathlib.Core.Bool.{Bool, false, not, true}
 use mathlib.Core.List.{_++_, List, [], _∷_}
 use mathlib.Core.Option.{some}
 use borrow.Author.Tests.{eq-eqb, eqb-true, not-false}
@@ -24,7 +24,6 @@ use Rattle.record.proofs.RowMeaningLaws.{rows-mean}
 use Rattle.rules.specs.Literals.{smallValues}
 use Rattle.rules.specs.Store.{upTo}
 use Rattle.rules.specs.Syntax.{Block}
-use Rattle.rules.proofs.LiteralsLaws.{smallValues-append}
 use Rattle.rules.proofs.Tests.{true-false}
 use Rattle.place.specs.ProgramView.{BlockAt}
 use Rattle.place.proofs.WholeLaws.{commands-at, commands-used, program-at, program-used}
@@ -106,23 +105,6 @@ early-none n z = ((λ e. true-false (sym e)), (λ e. inl z))
 
 pub early-by : (n : ℕ) → (n ≡ 0 → ⊥) → (not (eqb n 15) ≡ true → (n ≡ 0 → ⊥) × (n ≡ 15 → ⊥)) × (not (eqb n 15) ≡ false → (n ≡ 0) ⊎ (n ≡ 15))
 early-by n f = ((λ e. (f, (λ z. true-false (sym e ∙ ap not (eq-eqb n 15 z))))), (λ e. inr (eqb-true n 15 (not-false (eqb n 15) e))))
-
--- THE VALUES
-
-pub store-above : (ok : ℕ → Bool) (store counts : List ℕ) (above : Bool) → above ≡ not (smallValues ok store) → above ≡ true → true ≡ not (smallValues ok (store ++ counts))
-store-above ok store counts above e t = go (smallValues ok store) (sym t ∙ e) (smallValues-append ok store counts)
-  where
-    go : (b : Bool) → true ≡ not b → smallValues ok (store ++ counts) ≡ (b && smallValues ok counts) → true ≡ not (smallValues ok (store ++ counts))
-    go true q f = q ∙ cc
-    go false q f = sym (ap not f)
-
-pub counts-above : (ok : ℕ → Bool) (store counts : List ℕ) (above : Bool) → above ≡ not (smallValues ok store) → above ≡ false
-    → not (smallValues ok counts) ≡ not (smallValues ok (store ++ counts))
-counts-above ok store counts above e f = go (smallValues ok store) (sym f ∙ e) (smallValues-append ok store counts)
-  where
-    go : (b : Bool) → false ≡ not b → smallValues ok (store ++ counts) ≡ (b && smallValues ok counts) → not (smallValues ok counts) ≡ not (smallValues ok (store ++ counts))
-    go true q g = ap not (sym g)
-    go false q g = cc
 
 -- ROWS 13 AND 16, by the two tests
 

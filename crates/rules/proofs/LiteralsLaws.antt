@@ -4,7 +4,7 @@ use mathlib.Core.Path.{ap, refl, sym, _∙_, _≡_}
 use mathlib.Core.Logic.{inl, inr, _↔_}
 use mathlib.Core.Bool.{Bool, and-assoc, false, not, true, _&&_}
 use mathlib.Core.List.{_++_, List, [], _∷_}
-use borrow.Author.Tests.{not-true}
+use borrow.Author.Tests.{not-false, not-true}
 use lib.ListN.{drop, getD, length, take}
 use lib.Seq.{drop-cons}
 use native.Mathlib.Omega.{arith}
@@ -34,6 +34,18 @@ module _ (ok : ℕ → Bool) where
   unfolding smallValues
   smallValues-append [] s = refl
   smallValues-append (v ∷ r) s = ap (λ (b : Bool). ok v && b) (smallValues-append r s) ∙ sym (and-assoc (ok v) (smallValues ok r) (smallValues ok s))
+
+  -- by what was found of the first: where one does not pass, not all of both do; where all pass, the second decides
+  module _ (r s : List ℕ) (above : Bool) (tells : above ≡ not (smallValues ok r)) where
+    pub first-above : above ≡ true → true ≡ not (smallValues ok (r ++ s))
+    first-above t = go (smallValues ok r) (sym t ∙ tells) (smallValues-append r s)
+      where
+        go : (b : Bool) → true ≡ not b → smallValues ok (r ++ s) ≡ (b && smallValues ok s) → true ≡ not (smallValues ok (r ++ s))
+        go true e q = e ∙ cc
+        go false e q = sym (ap not q)
+
+    pub second-decides : above ≡ false → smallValues ok (r ++ s) ≡ smallValues ok s
+    second-decides f = smallValues-append r s ∙ ap (λ (b : Bool). b && smallValues ok s) (not-false (smallValues ok r) (sym tells ∙ f))
 
   -- from a place on: the value there, and then the rest
   pub smallValues-at : (s : List ℕ) (i : ℕ) → i < length s → smallValues ok (drop i s) ≡ (ok (getD s i 0) && smallValues ok (drop (suc i) s))

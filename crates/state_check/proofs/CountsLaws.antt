@@ -3,13 +3,13 @@ use Prim.Native.Nat.{_*_, _+_, _<_, _≤_, suc, zero, ℕ}
 use mathlib.Core.Path.{ap, refl, sym, _∙_, _≡_}
 use mathlib.Core.Bool.{Bool, false, not, true, _&&_}
 use mathlib.Core.List.{_++_, List, [], _∷_, append-assoc}
-use borrow.Author.Tests.{le-ltb, lt-ltb, not-false}
+use borrow.Author.Tests.{le-ltb, lt-ltb}
 use lib.Dec.{ltb}
 use lib.ListN.{getD, length}
 use native.Mathlib.Omega.{arith}
 use Rattle.rules.specs.Literals.{smallValues}
 use Rattle.rules.specs.Store.{upTo}
-use Rattle.rules.proofs.LiteralsLaws.{smallValues-append}
+use Rattle.rules.proofs.LiteralsLaws.{first-above, second-decides}
 use Rattle.rules.proofs.StoreLaws.{upTo-above, upTo-iff}
 use Rattle.counting.specs.Held.{Held}
 use Rattle.counting.specs.SmallState.{countsOf, sumOf, topAs, topsOf}
@@ -101,18 +101,11 @@ module _ {ws : List ℕ} {n j : ℕ} (l : Looked ws n j) (b : j < n) where
     abbrev tops : List ℕ
     tops = topAs (getD ws (3 + 6 * j) 0) (getD ws (3 + 6 * j + 2) 0) []
 
-    both : smallValues ok (countsBehind ws j) ≡ (smallValues ok tops && smallValues ok (countsBehind ws (j + 1)))
-    both = ap (smallValues ok) counts-next ∙ smallValues-append ok tops (countsBehind ws (j + 1))
-
     pub some-above : above ≡ true → true ≡ not (smallValues ok (countsBehind ws j))
-    some-above t = go (smallValues ok tops) (sym t ∙ tells) both
-      where
-        go : (x : Bool) → true ≡ not x → smallValues ok (countsBehind ws j) ≡ (x && smallValues ok (countsBehind ws (j + 1))) → true ≡ not (smallValues ok (countsBehind ws j))
-        go true e q = e ∙ cc
-        go false e q = sym (ap not q)
+    some-above t = first-above ok tops (countsBehind ws (j + 1)) above tells t ∙ ap (λ (l : List ℕ). not (smallValues ok l)) (sym counts-next)
 
     pub none-above : above ≡ false → smallValues ok (countsBehind ws j) ≡ smallValues ok (countsBehind ws (j + 1))
-    none-above f = both ∙ ap (λ (x : Bool). x && smallValues ok (countsBehind ws (j + 1))) (not-false (smallValues ok tops) (sym tells ∙ f))
+    none-above f = ap (smallValues ok) counts-next ∙ second-decides ok tops (countsBehind ws (j + 1)) above tells f
 
 -- behind the last there is the sum alone
 tops-none : (hs : List Held) → length hs ≡ 0 → topsOf hs ≡ []
