@@ -10,8 +10,9 @@
  * is memset. No call needs more than about 2 KB of stack (run_batch: 2.2 KB).
  *
  * Records: a program or a term is of edition 1 (kind 7 or 40, a header of 8 bytes) or of edition 2 (kind 9 or 41, a header of 12), whose
- * header holds a ceiling behind k. Every call that is lent a record takes both. No value may be above the ceiling; edition 1 counts as
- * the largest value, 4,294,967,295. A call that writes a record keeps the edition and the ceiling of the one that it was lent.
+ * header holds a ceiling behind k. Calls that are lent a record take both. No value may be above the ceiling; edition 1 counts as
+ * the largest value, 4,294,967,295. A call that writes a record keeps the edition and the ceiling of the one that it was lent; only the
+ * four calls that move a record to the other edition do not, and each of them takes the one edition that it moves from.
  *
  * Every call ends, and answers VISTROKK_ACCEPTED or the number of the first refusal that applies. A refusal gives 0 for everything
  * else and changes no byte that was lent.
@@ -37,12 +38,14 @@ enum vistrokk_refusal {
     VISTROKK_ACCEPTED = 0,
     VISTROKK_BAD_BUFFER = 1,             /* a buffer above 16,384 bytes, or `used` above its buffer */
     VISTROKK_BAD_BATCH = 14,             /* batch: no store, or more than 64 */
-    VISTROKK_BAD_HEADER = 2,             /* under 8 bytes used, under 12 with kind 9 or 41, wrong kind, or the record's length not `used` */
+    VISTROKK_BAD_HEADER = 2,             /* under 8 bytes used, under 12 with kind 9 or 41, wrong kind, or the record's length not `used`;
+                                          * moving to an edition: also the kind of that edition */
     VISTROKK_BAD_K = 3,                  /* k not 1 to 16 */
     VISTROKK_MALFORMED = 4,              /* bytes outside the grammar, variable numbers disregarded */
     VISTROKK_BAD_VARIABLE = 5,           /* a variable number not 1 to k */
     VISTROKK_TOO_DEEP = 12,              /* counting: blocks and loops nested over 32 deep, the outermost block counted */
     VISTROKK_LITERAL_ABOVE_CEILING = 15, /* a literal of the program, or a numeral of the term, above the header's ceiling */
+    VISTROKK_SMALL_CEILING = 17,         /* moving to edition 1: the header's ceiling is smaller than 4,294,967,295 */
     VISTROKK_BAD_STORE = 6,              /* store: not k values; weighing: not 1 to 16; batch: values, or answers, of another length */
     VISTROKK_BAD_RULE = 11,              /* weighing: a rule number other than 1 or 2 */
     VISTROKK_BAD_STATE = 13,             /* counting: words that hold no state of the program */
@@ -72,6 +75,22 @@ vistrokk_written vistrokk_translate(const uint8_t *src, size_t src_len, size_t u
 /* The program that translates to the term in `src`, into `out`. Refusals 1 (either buffer), 2 to 5, 15, 9 and 10. Writes `out`
  * alone. */
 vistrokk_written vistrokk_read_back(const uint8_t *src, size_t src_len, size_t used, uint8_t *out, size_t out_len);
+
+/* The program of edition 1 (kind 7) in `src`, into `out` as one of edition 2 (kind 9) with the largest ceiling, 4,294,967,295: k and the
+ * block are the same, and the record is 4 bytes longer. It runs as before in a buffer of 4 bytes more. A program that is of edition 2
+ * already has the wrong kind. Refusals 1 (either buffer), 2 to 5, 15 and 10. Writes `out` alone. */
+vistrokk_written vistrokk_program_to_edition_2(const uint8_t *src, size_t src_len, size_t used, uint8_t *out, size_t out_len);
+
+/* The way back, to the same bytes: the program of edition 2 in `src`, into `out` as one of edition 1, without its ceiling and so 4 bytes
+ * shorter. Edition 1 has the largest ceiling, so one that is smaller would be lost: that is refusal 17. A program that is of edition 1
+ * already has the wrong kind. Refusals 1 (either buffer), 2 to 5, 15, 17 and 10. Writes `out` alone. */
+vistrokk_written vistrokk_program_to_edition_1(const uint8_t *src, size_t src_len, size_t used, uint8_t *out, size_t out_len);
+
+/* The same of a term: from kind 40 to 41. Refusals 1 (either buffer), 2 to 5, 15 and 10. Writes `out` alone. */
+vistrokk_written vistrokk_term_to_edition_2(const uint8_t *src, size_t src_len, size_t used, uint8_t *out, size_t out_len);
+
+/* And back: from kind 41 to 40. Refusals 1 (either buffer), 2 to 5, 15, 17 and 10. Writes `out` alone. */
+vistrokk_written vistrokk_term_to_edition_1(const uint8_t *src, size_t src_len, size_t used, uint8_t *out, size_t out_len);
 
 /* number and used: as above. replaced: how many variable records were turned into numerals, 0 with a refusal. */
 typedef struct { uint32_t number, used, replaced; } vistrokk_substituted;

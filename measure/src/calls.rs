@@ -8,6 +8,7 @@
 mod batch;
 mod check;
 mod counting;
+mod editions;
 mod reducer;
 mod stepper;
 mod terms;
@@ -19,11 +20,12 @@ use other::generate::lend;
 pub fn print() {
     println!("The calls, nanoseconds: the library, the other program (trees), plain Rust on bytes");
     println!(
-        "{:<15}{:<32}{:>11}{:>11}{:>7}{:>11}{:>7}",
+        "{:<21}{:<32}{:>11}{:>11}{:>7}{:>11}{:>7}",
         "", "on", "library", "other", "ratio", "plain", "ratio"
     );
     check::print();
     terms::print();
+    editions::print();
     weigh::print();
     stepper::print();
     counting::print();
@@ -47,7 +49,7 @@ fn lent_with_copies(record: &[u8]) -> (Vec<u8>, [Vec<u8>; 3]) {
 /// One line of the table: the library first, then the other program, then the plain version.
 fn row(call: &str, on: &str, work: &mut [&mut dyn FnMut()]) {
     let times = best(work);
-    print!("{call:<15}{on:<32}{:>11.0}", times[0]);
+    print!("{call:<21}{on:<32}{:>11.0}", times[0]);
     for time in &times[1..] {
         print!("{time:>11.0}{:>7.2}", times[0] / time);
     }

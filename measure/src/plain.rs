@@ -4,6 +4,7 @@
 pub mod batch;
 pub mod check;
 pub mod counting;
+pub mod editions;
 pub mod expand;
 pub mod read_back;
 pub mod reducer;
@@ -12,10 +13,11 @@ pub mod store;
 pub mod substitute;
 pub mod translate;
 
-use other::calls::{self, Ran};
+use other::calls::{self, Ran, Written};
 use other::check::{depth, Refusal};
 use other::codec::Record;
 use other::generate::batches::any_batch;
+use other::generate::editions::to_move;
 use other::generate::lending::{
     closed, lent_store, output_room, perhaps_damaged, sound_term, translatable_program, Lending,
 };
@@ -25,7 +27,7 @@ use other::random::Random;
 use other::run::counting::words::{write, STATE_WORDS};
 use other::run::Outcome;
 use other::substitute::{substitute as substitute_in, values_of};
-use other::tree::Program;
+use other::tree::{Program, TermRecord};
 
 fn half(bytes: &[u8], at: usize) -> usize {
     usize::from(u16::from_le_bytes([bytes[at], bytes[at + 1]]))
@@ -206,6 +208,7 @@ pub fn agree() {
         substitute_in(&mut term.term, &values_of(&values));
         agree_on_term(&perhaps_damaged(random, &term.encode()), &values, budget);
         agree_on_batch(random);
+        agree_on_moves(random, program, term);
     }
 }
 
@@ -284,6 +287,47 @@ fn agree_on_term(Lending { buffer, used }: &Lending, values: &[u32], budget: u32
     let ran = reducer::run_reducer(&mut buf, *used, budget);
     assert_eq!(ran, calls::run_reducer(&mut other_buf, *used, budget));
     assert_eq!(buf, other_buf);
+}
+
+/// Both ways, of records in the edition moved from or not.
+fn agree_on_moves(random: &mut Random, program: Program, term: TermRecord) {
+    let program = to_move(random, program).encode();
+    agree_on_move(
+        random,
+        &program,
+        editions::program_to_edition_2,
+        calls::program_to_edition_2,
+    );
+    agree_on_move(
+        random,
+        &program,
+        editions::program_to_edition_1,
+        calls::program_to_edition_1,
+    );
+    let term = to_move(random, term).encode();
+    agree_on_move(
+        random,
+        &term,
+        editions::term_to_edition_2,
+        calls::term_to_edition_2,
+    );
+    agree_on_move(
+        random,
+        &term,
+        editions::term_to_edition_1,
+        calls::term_to_edition_1,
+    );
+}
+
+type Move = fn(&[u8], usize, &mut [u8]) -> Written;
+
+fn agree_on_move(random: &mut Random, record: &[u8], plain: Move, other: Move) {
+    let Lending { buffer, used } = perhaps_damaged(random, record);
+    let room = output_room(random, record.len());
+    let (mut out, mut other_out) = (vec![0xA5; room], vec![0xA5; room]);
+    let written = plain(&buffer, used, &mut out);
+    assert_eq!(written, other(&buffer, used, &mut other_out));
+    assert_eq!(out, other_out);
 }
 
 fn agree_on_batch(random: &mut Random) {

@@ -13,7 +13,7 @@ pub fn print() {
             bytes, on, limit, ..
         }) = of_call.max_by_key(|each| each.bytes)
         {
-            println!("{call:<16}{bytes:>7} of {limit:<7} on {on}");
+            println!("{call:<21}{bytes:>7} of {limit:<7} on {on}");
         }
     }
     println!();

@@ -8,6 +8,7 @@
 mod batch;
 mod check;
 mod counting;
+mod editions;
 mod reducer;
 mod stepper;
 mod terms;
@@ -16,6 +17,9 @@ mod weigh;
 pub use batch::run_batch;
 pub use check::{check_program, check_term};
 pub use counting::{expand, run_counting};
+pub use editions::{
+    program_to_edition_1, program_to_edition_2, term_to_edition_1, term_to_edition_2,
+};
 pub use reducer::run_reducer;
 pub use stepper::run_stepper;
 pub use terms::{read_back, result, substitute, translate};

@@ -1,4 +1,4 @@
-//! Every call over bytes: the twelve functions of `include/vistrokk.h`.
+//! Every call over bytes: the sixteen functions of `include/vistrokk.h`.
 //!
 //! Each one tests its rows in the table's order before it changes anything. A refusal gives its number
 //! and 0 for everything else, and leaves every lent slice as it came. After an accepted call the
@@ -14,7 +14,7 @@ use crate::run::stepper::Config;
 use crate::run::{self, Outcome};
 use crate::substitute::{closed, substitute as substitute_in, values_of};
 use crate::translate;
-use crate::tree::{Header, Program, Term, TermRecord};
+use crate::tree::{Edition, Header, Program, Term, TermRecord, Value};
 
 #[derive(Clone, Copy, Debug, Default, PartialEq, Eq)]
 pub struct Checked {
@@ -156,6 +156,38 @@ fn program_of(src: &[u8], used: usize, room: usize) -> Result<Vec<u8>, Refusal> 
     let term: TermRecord = source(src, used, room)?;
     let program = read_back::read_back(&term).ok_or(Refusal::NoProgram)?;
     fitting(&program, room)
+}
+
+// Rows 1–5, 15, 10; to edition 1 also 17, behind 15. With the kind of the edition asked for it is row 2.
+
+/// Under the largest ceiling (02, C-18).
+pub fn program_to_edition_2(src: &[u8], used: usize, out: &mut [u8]) -> Written {
+    written(in_edition_2::<Program>(src, used, out.len()), out)
+}
+
+pub fn program_to_edition_1(src: &[u8], used: usize, out: &mut [u8]) -> Written {
+    written(in_edition_1::<Program>(src, used, out.len()), out)
+}
+
+pub fn term_to_edition_2(src: &[u8], used: usize, out: &mut [u8]) -> Written {
+    written(in_edition_2::<TermRecord>(src, used, out.len()), out)
+}
+
+pub fn term_to_edition_1(src: &[u8], used: usize, out: &mut [u8]) -> Written {
+    written(in_edition_1::<TermRecord>(src, used, out.len()), out)
+}
+
+fn in_edition_2<R: Record>(src: &[u8], used: usize, room: usize) -> Result<Vec<u8>, Refusal> {
+    check::buffer(room, 0)?;
+    let record: R = check::lent_to_move(src, used, 1)?;
+    fitting(&record.in_edition(Edition::Second(Value::MAX)), room)
+}
+
+fn in_edition_1<R: Record>(src: &[u8], used: usize, room: usize) -> Result<Vec<u8>, Refusal> {
+    check::buffer(room, 0)?;
+    let record: R = check::lent_to_move(src, used, 2)?;
+    check::largest_ceiling(record.header())?;
+    fitting(&record.in_edition(Edition::First), room)
 }
 
 /// Row 1 for both buffers, the output too, comes before row 2 for the source.

@@ -1,4 +1,4 @@
-//! Rows 1 to 5 of 01, "Where an order stops", rows 12, 14, 15 and 16 of 02, and the numbers of all:
+//! Rows 1 to 5 of 01, "Where an order stops", rows 12, 14, 15, 16 and 17 of 02, and the numbers of all:
 //! 01's ten and 02's.
 
 use crate::codec::Record;
@@ -25,6 +25,8 @@ pub enum Refusal {
     TooDeep = 12,
     /// A literal or numeral above the header's ceiling (02, C-17: after refusals 5 and 12).
     LiteralAboveCeiling = 15,
+    /// Moving to edition 1: a ceiling smaller than the largest value (02, C-18: after refusal 15).
+    SmallCeiling = 17,
     /// A store of other than k values (weighing: of other than 1 to 16).
     BadStore = 6,
     /// Weighing: a rule number other than 1 or 2 (02, C-11: after refusal 6).
@@ -165,4 +167,22 @@ pub fn lent_within<R: Record>(buffer: &[u8], used: usize) -> Result<R, Refusal> 
     let tree = lent(buffer, used)?;
     literals(&tree)?;
     Ok(tree)
+}
+
+/// The same for a record that is to be moved away from this edition (02, C-18): one of the other edition
+/// has the wrong kind, which is row 2.
+pub fn lent_to_move<R: Record>(buffer: &[u8], used: usize, from: u32) -> Result<R, Refusal> {
+    self::buffer(buffer.len(), used)?;
+    if header(&buffer[..used], R::KINDS)?.edition.number() != from {
+        return Err(Refusal::BadHeader);
+    }
+    lent_within(buffer, used)
+}
+
+/// Row 17: edition 1 has no field for a ceiling, and counts as the largest value.
+pub fn largest_ceiling(header: Header) -> Result<(), Refusal> {
+    if header.ceiling() < Value::MAX {
+        return Err(Refusal::SmallCeiling);
+    }
+    Ok(())
 }

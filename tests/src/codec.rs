@@ -44,6 +44,8 @@ pub trait Record: Sized {
     const KINDS: [u16; 2];
 
     fn header(&self) -> Header;
+    /// The same record with a header of this edition.
+    fn in_edition(self, edition: Edition) -> Self;
     /// Every variable number in the record.
     fn variables(&self) -> Vec<Variable>;
     /// Every literal of a program, every numeral of a term.
@@ -61,6 +63,11 @@ impl Record for Program {
 
     fn header(&self) -> Header {
         self.header
+    }
+
+    fn in_edition(mut self, edition: Edition) -> Program {
+        self.header.edition = edition;
+        self
     }
 
     fn variables(&self) -> Vec<Variable> {
@@ -92,6 +99,11 @@ impl Record for TermRecord {
 
     fn header(&self) -> Header {
         self.header
+    }
+
+    fn in_edition(mut self, edition: Edition) -> TermRecord {
+        self.header.edition = edition;
+        self
     }
 
     fn variables(&self) -> Vec<Variable> {

@@ -5,6 +5,7 @@
 
 use crate::codec::{header_len, Record};
 use crate::examples::{nest_of_blocks, nest_of_loops, program, row_of_blocks};
+use crate::generate::editions::LARGEST;
 use crate::substitute::{substitute, values_of};
 use crate::translate::translate;
 use crate::tree::{
@@ -242,6 +243,41 @@ pub fn finished_record() -> Records {
 /// What a result is asked of: terms that are open, closed and finished.
 pub fn result_records() -> Records {
     [term_records(), closed_records(), finished_record()].concat()
+}
+
+/// What is moved to the other edition (02, C-18): the longest of edition 2, with the largest ceiling, and the
+/// same in edition 1, whose move gives them.
+pub fn programs_to_move() -> Records {
+    [Edition::First, LARGEST]
+        .into_iter()
+        .flat_map(programs_to_move_from)
+        .collect()
+}
+
+pub fn terms_to_move() -> Records {
+    [Edition::First, LARGEST]
+        .into_iter()
+        .flat_map(terms_to_move_from)
+        .collect()
+}
+
+/// Those of one edition.
+pub fn programs_to_move_from(edition: Edition) -> Records {
+    moved_to(edition, programs(LARGEST))
+}
+
+pub fn terms_to_move_from(edition: Edition) -> Records {
+    moved_to(edition, terms(LARGEST))
+}
+
+/// Records of edition 2 in this edition, and by its name.
+fn moved_to<R: Record>(edition: Edition, all: Named<R>) -> Records {
+    let one = |(name, record): (String, R)| {
+        let name = name.trim_end_matches(suffix(LARGEST));
+        let record = record.in_edition(edition).encode();
+        (format!("{name}{}", suffix(edition)), record)
+    };
+    all.into_iter().map(one).collect()
 }
 
 fn encoded<R: Record>(all: Named<R>) -> Records {

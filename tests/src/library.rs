@@ -11,6 +11,7 @@
 mod batch;
 mod check;
 mod counting;
+mod editions;
 mod ran;
 mod reducer;
 mod stepper;
@@ -20,6 +21,9 @@ mod weigh;
 pub use batch::run_batch;
 pub use check::{check_program, check_term};
 pub use counting::{expand, run_counting};
+pub use editions::{
+    program_to_edition_1, program_to_edition_2, term_to_edition_1, term_to_edition_2,
+};
 pub use reducer::run_reducer;
 pub use stepper::run_stepper;
 pub use terms::{read_back, result, substitute, translate};

@@ -21,6 +21,15 @@ pub enum Edition {
     Second(Value),
 }
 
+impl Edition {
+    pub fn number(self) -> u32 {
+        match self {
+            Edition::First => 1,
+            Edition::Second(_) => 2,
+        }
+    }
+}
+
 impl Header {
     /// Of edition 1.
     pub fn first(k: u32) -> Header {

@@ -1,4 +1,4 @@
-//! The refusals that a ceiling brings (02, C-17), of every call: headers of edition 2 in row 2, rows 15
+//! The refusals that a ceiling brings (02, C-17), of every call that takes both editions: headers of edition 2 in row 2, rows 15
 //! and 16 at their boundaries, and the order of all rows. A refusal gives 0 for the rest and changes
 //! nothing that was lent.
 

@@ -47,7 +47,7 @@ fn in_capitals(name: impl std::fmt::Debug) -> String {
     capitals
 }
 
-/// In the table's order, which the header promises: 14 stands behind 1, 12 and 15 behind 5, and 11, 13
+/// In the table's order, which the header promises: 14 stands behind 1, 12, 15 and 17 behind 5, and 11, 13
 /// and 16 behind 6.
 #[test]
 fn the_refusals_have_their_numbers_in_the_order_of_the_table() {
@@ -61,6 +61,7 @@ fn the_refusals_have_their_numbers_in_the_order_of_the_table() {
         Refusal::BadVariable,
         Refusal::TooDeep,
         Refusal::LiteralAboveCeiling,
+        Refusal::SmallCeiling,
         Refusal::BadStore,
         Refusal::BadRule,
         Refusal::BadState,
@@ -134,6 +135,10 @@ fn the_answers_have_their_fields() {
         ("checked", "check_term"),
         ("written", "translate"),
         ("written", "read_back"),
+        ("written", "program_to_edition_2"),
+        ("written", "program_to_edition_1"),
+        ("written", "term_to_edition_2"),
+        ("written", "term_to_edition_1"),
         ("substituted", "substitute"),
         ("ran", "run_stepper"),
         ("reduced", "run_reducer"),
@@ -144,6 +149,28 @@ fn the_answers_have_their_fields() {
     for (answer, call) in calls {
         let start = format!("\nvistrokk_{answer} vistrokk_{call}(");
         assert!(header().contains(&start), "{call}");
+    }
+}
+
+/// The calls of the header are those that `calls` has, and no other: sixteen.
+#[test]
+fn there_are_sixteen_calls() {
+    let header = header();
+    let starts =
+        |line: &&str| line.starts_with("vistrokk_") || line.starts_with("uint32_t vistrokk_");
+    assert_eq!(header.lines().filter(starts).count(), 16);
+}
+
+/// 02, C-18: what a record is moved from and to. The source is not written.
+#[test]
+fn a_record_is_moved_from_one_buffer_to_another() {
+    let lent = "const uint8_t *src, size_t src_len, size_t used, uint8_t *out, size_t out_len";
+    for sort in ["program", "term"] {
+        for edition in [1, 2] {
+            let call =
+                format!("\nvistrokk_written vistrokk_{sort}_to_edition_{edition}({lent});\n");
+            assert!(header().contains(&call), "{call}");
+        }
     }
 }
 

@@ -1,12 +1,14 @@
 //! 01's "Mistakes that pass a quick trial", and those that 02's count of replaced variables (C-13), its
-//! loops carried as counts (C-14), its batches (C-16) and its ceilings (C-17) leave room for, each with the
-//! value that the rules give.
+//! loops carried as counts (C-14), its batches (C-16), its ceilings (C-17) and its moved records (C-18) leave
+//! room for, each with the value that the rules give.
 
 use other::both::{
-    check_program, check_term, expand, read_back as read_back_over_bytes, result, run_batch,
-    run_counting, run_reducer, run_stepper, substitute as substitute_over_bytes,
+    check_program, check_term, expand, program_to_edition_1, program_to_edition_2,
+    read_back as read_back_over_bytes, result, run_batch, run_counting, run_reducer, run_stepper,
+    substitute as substitute_over_bytes, term_to_edition_1, term_to_edition_2,
     translate as translate_over_bytes,
 };
+use other::calls::Written;
 use other::codec::Record;
 use other::examples::{add, nest_of_blocks, nest_of_loops, plus_one, program};
 use other::generate::batches::{job, Batch, Job};
@@ -629,4 +631,119 @@ fn a_header_of_edition_2_has_12_bytes() {
     let written = expand(&record, record.len(), &waiting(START, 5), &[4], &mut out);
     assert_eq!(written.used as usize, record.len());
     assert_eq!(out[..16], record[..16]);
+}
+
+/// A ceiling one below the largest, or none copied: {x1 := x1 + 1} in edition 2 has 255 in all four bytes
+/// behind k, takes the largest value as a literal, and comes to it in a run. So does its term.
+#[test]
+fn a_moved_record_has_the_largest_ceiling() {
+    let mut second = [0xA5; 40];
+    let written = program_to_edition_2(&plus_one().encode(), 28, &mut second);
+    assert_eq!((written.number, written.used), (0, 32));
+    assert_eq!(second[4..12], [1, 0, 0, 0, 255, 255, 255, 255]);
+    let mut store = [u32::MAX - 1];
+    let ran = run_stepper(&mut second, 32, &mut store, 9);
+    assert_eq!((ran.outcome, ran.steps, store), (1, 2, [u32::MAX]));
+    let literal = program(1, vec![assign(1, Expr::Literal(u32::MAX))]).encode();
+    let written = program_to_edition_2(&literal, 28, &mut second);
+    assert_eq!((written.number, check_program(&second, 32).number), (0, 0));
+    let mut term = translate(&plus_one()).encode();
+    substitute_over_bytes(&mut term, 40, &[u32::MAX - 1]);
+    let mut second = [0xA5; 44];
+    assert_eq!(term_to_edition_2(&term, 40, &mut second).used, 44);
+    assert_eq!(second[8..12], [255; 4]);
+    assert_eq!(run_reducer(&mut second, 44, 9).ran.outcome, 1);
+    let mut shown = [0];
+    assert_eq!(result(&second, 24, &mut shown), 0);
+    assert_eq!(shown, [u32::MAX]);
+}
+
+/// Moved back with a smaller ceiling, which edition 1 cannot say: a program that stops before 11 would then
+/// stop before 4,294,967,296. Smaller is one less too.
+#[test]
+fn a_smaller_ceiling_is_not_lost() {
+    for (ceiling, number) in [(10, 17), (0, 17), (u32::MAX - 1, 17), (u32::MAX, 0)] {
+        let record = plus_one().under(ceiling).encode();
+        let mut out = [0xA5; 28];
+        let written = program_to_edition_1(&record, record.len(), &mut out);
+        assert_eq!(written.number, number, "{ceiling}");
+        let record = translate(&plus_one()).under(ceiling).encode();
+        let mut out = [0xA5; 40];
+        let written = term_to_edition_1(&record, record.len(), &mut out);
+        assert_eq!(written.number, number, "{ceiling}");
+    }
+}
+
+/// The header's length not raised, or not lowered, or raised in the answer alone: the moved record is one
+/// that the check takes with the length that was answered. {x1 := x1 + 1} has 28 bytes and its term 40.
+#[test]
+fn the_headers_length_is_moved_too() {
+    let mut second = [0xA5; 60];
+    let written = program_to_edition_2(&plus_one().encode(), 28, &mut second);
+    assert_eq!((written.used, &second[..4]), (32, &[32, 0, 9, 0][..]));
+    assert_eq!(check_program(&second, 32).number, 0);
+    let mut first = [0xA5; 60];
+    let written = program_to_edition_1(&second, 32, &mut first);
+    assert_eq!((written.used, &first[..4]), (28, &[28, 0, 7, 0][..]));
+    assert_eq!(check_program(&first, 28).number, 0);
+    let written = term_to_edition_2(&translate(&plus_one()).encode(), 40, &mut second);
+    assert_eq!((written.used, &second[..4]), (44, &[44, 0, 41, 0][..]));
+    assert_eq!(check_term(&second, 44).number, 0);
+    let written = term_to_edition_1(&second, 44, &mut first);
+    assert_eq!((written.used, &first[..4]), (40, &[40, 0, 40, 0][..]));
+    assert_eq!(check_term(&first, 40).number, 0);
+}
+
+/// 17 before 15, or behind 10: {x1 := 6} under a ceiling of 5 has a literal above it, and under one of 6 a
+/// ceiling that is too small, both also where there is no room.
+#[test]
+fn a_literal_above_the_ceiling_before_a_small_ceiling() {
+    for room in [0, 28, 60] {
+        let number = |ceiling| {
+            let record = program(1, vec![assign(1, Expr::Literal(6))]);
+            let record = record.under(ceiling).encode();
+            program_to_edition_1(&record, record.len(), &mut vec![0xA5; room]).number
+        };
+        let fits = if room == 0 { 10 } else { 0 };
+        assert_eq!([number(5), number(6), number(u32::MAX)], [15, 17, fits]);
+        let number = |ceiling| {
+            let record = TermRecord::new(1, Term::Tuple(vec![Atom::Numeral(6)]));
+            let record = record.under(ceiling).encode();
+            term_to_edition_1(&record, record.len(), &mut vec![0xA5; room]).number
+        };
+        assert_eq!([number(5), number(6), number(u32::MAX)], [15, 17, fits]);
+    }
+}
+
+/// What is already in the edition asked for copied as it is, or k or the grammar looked at before: it is a
+/// wrong kind.
+#[test]
+fn nothing_is_moved_to_its_own_edition() {
+    let first = plus_one().encode();
+    let second = plus_one().under(u32::MAX).encode();
+    let small = plus_one().under(5).encode();
+    let mut broken = second.clone();
+    (broken[4], broken[14]) = (17, 8);
+    for record in [&second, &small, &broken] {
+        let mut out = [0xA5; 60];
+        let written = program_to_edition_2(record, record.len(), &mut out);
+        assert_eq!((written, out), (Written::refused(2u32), [0xA5; 60]));
+    }
+    let mut out = [0xA5; 60];
+    let written = program_to_edition_1(&first, first.len(), &mut out);
+    assert_eq!((written, out), (Written::refused(2u32), [0xA5; 60]));
+}
+
+/// The block not moved by the 4 bytes of the ceiling, or the old bytes left behind a shorter record: the whole
+/// of an output that was full, for {} at k = 1.
+#[test]
+fn the_contents_are_moved_with_the_header() {
+    let mut out = [0xA5; 20];
+    program_to_edition_2(&program(1, vec![]).encode(), 12, &mut out);
+    let second = [16, 0, 9, 0, 1, 0, 0, 0, 255, 255, 255, 255, 4, 0, 1, 0];
+    assert_eq!(out, [&second[..], &[0; 4]].concat()[..]);
+    let mut out = [0xA5; 20];
+    program_to_edition_1(&second, 16, &mut out);
+    let first = [12, 0, 7, 0, 1, 0, 0, 0, 4, 0, 1, 0];
+    assert_eq!(out, [&first[..], &[0; 8]].concat()[..]);
 }

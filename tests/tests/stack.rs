@@ -16,7 +16,7 @@ fn no_call_takes_more_stack_than_it_may() {
         } else {
             ""
         };
-        println!("{:>7} {:<13} on {}{above}", each.bytes, each.call, each.on);
+        println!("{:>7} {:<20} on {}{above}", each.bytes, each.call, each.on);
     }
     assert!(measured.iter().all(|each| each.bytes <= each.limit));
 }

@@ -6,8 +6,12 @@ use mathlib.Core.Logic.{_↔_, _⊎_}
 use mathlib.Core.Bool.{true}
 use mathlib.Core.List.{List, [], map, _∷_}
 use Rattle.batch.specs.RunBatch.{batchRows, runBatch}
+use Rattle.conversion.specs.Convert.{convertCall, convertRows}
 use Rattle.counting.specs.CountingCall.{countingRows, expandCall, expandRows, runCounting}
 use Rattle.record.specs.Answers.{checkProgram, checkProgramRows, checkTerm, checkTermRows}
+use Rattle.record.specs.declared.Conversion.{Conversion}
+use Rattle.record.specs.declared.Conversion.the-variants.{ToFirst, ToSecond}
+use Rattle.record.specs.declared.Sort.{Sort}
 use Rattle.record.specs.Rows.{First, NoRow, Row, firstRow}
 use Rattle.record.specs.Table.{Place, inTable, numbersAt}
 use Rattle.record.specs.Table as table
@@ -23,6 +27,11 @@ use Rattle.weighing.specs.Weigh.{weighCall, weighRows}
 abbrev pub ofRecord : List Place → List Place
 ofRecord more = table.buffers ∷ table.header ∷ table.records ∷ more
 
+-- The places of a conversion: moving back has one of its own (02 C-18).
+abbrev pub ofConversion : Conversion → List Place
+ofConversion ToFirst = ofRecord (table.conversion ∷ table.conversionBack ∷ [])
+ofConversion ToSecond = ofRecord (table.conversion ∷ [])
+
 -- A call's rows are those that the table has for its places, in the table's order; n is 0 or a number of the table: 0 exactly where
 -- no row of the call applies, and else the number of the first that does.
 pub record Numbers (places : List Place) (rows : List Row) (n : ℕ) : Type 0 where
@@ -31,7 +40,7 @@ pub record Numbers (places : List Place) (rows : List Row) (n : ℕ) : Type 0 wh
   pub none : (n ≡ 0) ↔ NoRow rows
   pub first : First rows n
 
--- The demand, of each of the twelve calls and whatever is lent.
+-- The demand, of each of the sixteen calls and whatever is lent. The four conversions are one definition, of both sorts and directions.
 pub record Demand1 : Type 0 where
   -- every call gives the first row of its own that applies
   pub checkProgramNumber : (buf : List ℕ) (used : ℕ) → Numbers (ofRecord []) (checkProgramRows buf used) ((checkProgram buf used) .number)
@@ -55,6 +64,8 @@ pub record Demand1 : Type 0 where
       → Numbers (ofRecord (table.counting ∷ table.store ∷ table.readStore ∷ table.writingOut ∷ [])) (expandRows buf used words store out) ((expandCall buf used words store out) .number)
   pub batchNumber : (program : List ℕ) (used : ℕ) (term work budgets values answers : List ℕ)
       → Numbers (ofRecord (table.batch ∷ table.store ∷ table.readStore ∷ [])) (batchRows program used term work budgets values answers) ((runBatch program used term work budgets values answers) .number)
+  pub convertNumber : (s : Sort) (to : Conversion) (src : List ℕ) (used : ℕ) (out : List ℕ)
+      → Numbers (ofConversion to) (convertRows s to src used out) ((convertCall s to src used out) .number)
   -- a refusal gives its number and 0 for everything else, and leaves every slice as it came
   pub checkProgramRefused : (buf : List ℕ) (used : ℕ) → (firstRow (checkProgramRows buf used) ≡ 0 → ⊥)
       → checkProgram buf used ≡ record { number = firstRow (checkProgramRows buf used); k = 0 }
@@ -81,3 +92,5 @@ pub record Demand1 : Type 0 where
   pub batchRefused : (program : List ℕ) (used : ℕ) (term work budgets values answers : List ℕ) → (firstRow (batchRows program used term work budgets values answers) ≡ 0 → ⊥)
       → runBatch program used term work budgets values answers
       ≡ record { number = firstRow (batchRows program used term work budgets values answers); used = 0; term = term; work = work; answers = answers }
+  pub convertRefused : (s : Sort) (to : Conversion) (src : List ℕ) (used : ℕ) (out : List ℕ) → (firstRow (convertRows s to src used out) ≡ 0 → ⊥)
+      → convertCall s to src used out ≡ record { number = firstRow (convertRows s to src used out); used = 0; written = out }

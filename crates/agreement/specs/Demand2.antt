@@ -9,6 +9,7 @@ use mathlib.Core.List.{List}
 use lib.ListN.{length}
 use Rattle.buffer.specs.LittleEndian.{Bytes}
 use Rattle.batch.specs.BatchMeaning.{BatchMeans}
+use Rattle.conversion.specs.ConversionMeaning.{ConversionMeans}
 use Rattle.counting.specs.CountingMeaning.{CountingMeans}
 use Rattle.record.specs.Answers.{checkProgram, checkTerm}
 use Rattle.record.specs.declared.Header.{Header}
@@ -31,7 +32,7 @@ use Rattle.stepper.specs.StepperRan.{StepperRan}
 use Rattle.term.specs.CallMeaning.{CallsMean}
 use Rattle.weighing.specs.WeighMeaning.{WeighMeans}
 
--- The demand, in six parts: the rules, the rows and the other calls, the counting stepper, the batch, the checks, the runs.
+-- The demand, in seven parts: the rules, the rows and the other calls, the counting stepper, the batch, the conversions, the checks, the runs.
 pub record Demand2 : Type 0 where
   -- THE RULES: a step, and a reduction of a closed term, is one of the paper's; over is a value that the rule works out and
   -- that is too large; finished is the empty block, and the tuple
@@ -56,6 +57,8 @@ pub record Demand2 : Type 0 where
   pub countingMeans : CountingMeans
   -- A BATCH (02 C-16): its rows, what it leaves, and each answer that of the run on its store alone
   pub batchMeans : BatchMeans
+  -- THE CONVERSIONS (02 C-18): what they write, there and back, and of a translation
+  pub conversionMeans : ConversionMeans
   -- CHECK: 0 and k exactly where the bytes are the record of a program, of a term, in a buffer that is not too long
   pub checksProgram : (k : ℕ) (buf : List ℕ) (used : ℕ) → Bytes buf
       → (checkProgram buf used ≡ record { number = 0; k = k }) ↔ ((length buf ≤ 16384) × ((h : Header) × (P : Block) × (h .k ≡ k) × ProgramIn h P buf used))

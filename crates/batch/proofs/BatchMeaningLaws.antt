@@ -78,10 +78,10 @@ module _ {h : Header} {P : Block} {b : Lent} (a : Accepted h P b) where
   abbrev room : ℕ
   room = length (b .work)
 
-  lets : Lets h P (b .program) (b .used) (b .term) (b .work) (b .budgets) (b .values) (b .answers)
+  pub lets : Lets h P (b .program) (b .used) (b .term) (b .work) (b .budgets) (b .values) (b .answers)
   lets = batch-lets (b .program) (b .used) (b .term) (b .work) (b .budgets) (b .values) (b .answers) (a .holds) (a .none)
 
-  call-is : batchOf b
+  pub call-is : batchOf b
       ≡ record { number = 0; used = length bytes; term = padded (length (b .term)) bytes; work = replicate room 0; answers = answersOf k bytes room (jobs k (b .budgets) (b .values)) }
   call-is = lets-accepted (b .program) (b .used) (b .term) (b .work) (b .budgets) (b .values) (b .answers) lets
 
@@ -97,11 +97,11 @@ module _ {h : Header} {P : Block} {b : Lent} (a : Accepted h P b) where
 
   -- job i
   module _ (i : ℕ) (here : i < length (b .budgets)) where
-    store-size : length (storeAt k b i) ≡ k
+    pub store-size : length (storeAt k b i) ≡ k
     unfolding part
     store-size = length-part (b .values) (i * k) k (omega (arith, row-fits i (length (b .budgets)) k here, lets .valued))
 
-    store-small : SmallValues (okOf h) (storeAt k b i)
+    pub store-small : SmallValues (okOf h) (storeAt k b i)
     store-small = small-take (okOf h) k (drop (i * k) (b .values)) (small-drop (okOf h) (i * k) (b .values) (lets .small))
 
     -- its run, and its answer
@@ -131,7 +131,7 @@ module _ {h : Header} {P : Block} {b : Lent} (a : Accepted h P b) where
   answers-long : (i : ℕ) → i < length (b .budgets) → length (answerOf k (runAlone bytes room (jobAt k (b .budgets) (b .values) i))) ≡ k + 2
   answers-long i here = answer-length holds (storeAt k b i) (store-size i here) (store-small i here) room (lets .fitsWork) (lets .passed .lowWork) (budgetAt b i)
 
-  stands : (i : ℕ) (here : i < length (b .budgets)) → answerAt k b i ≡ answerOf k (ran i here)
+  pub stands : (i : ℕ) (here : i < length (b .budgets)) → answerAt k b i ≡ answerOf k (ran i here)
   unfolding part
   stands i here =
       ap (λ (c : BatchCall). take (k + 2) (drop (i * (k + 2)) (c .answers))) call-is

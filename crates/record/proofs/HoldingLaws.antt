@@ -52,7 +52,7 @@ pub record BlockHeld (h : Header) (P : Block) (buf : List ℕ) (used : ℕ) : Ty
   pub words : BlockWords P
 
 module _ {h : Header} {P : Block} {buf : List ℕ} {used : ℕ} (b : BlockHeld h P buf used) where
-  block-headed : take used buf ≡ headed program h (blockBytes P)
+  pub block-headed : take used buf ≡ headed program h (blockBytes P)
   unfolding encodeProgram
   block-headed = b .bytes
 
@@ -213,7 +213,7 @@ module _ {S : Vars} {h : Header} {t : Term} {buf : List ℕ} {used : ℕ} (p : T
   pub term-words : TermWords (h .k) t
   term-words = sound-words (okOf h) (ok-word h (p .header)) (h .k) S t (word-k h (p .header)) (p .sound)
 
-  term-headed : take used buf ≡ headed term h (encodeTermRecord t)
+  pub term-headed : take used buf ≡ headed term h (encodeTermRecord t)
   unfolding encodeTerm
   term-headed = p .bytes
 

@@ -22,3 +22,5 @@ pub mod HeaderReadLaws
 pub mod AloneLaws
 pub mod TermReadLaws
 pub mod PaddedLaws
+pub mod EditionLaws
+pub mod ConvertedLaws

@@ -18,13 +18,15 @@ use Rattle.rules.proofs.FreeVariablesLaws.{closed-free, free-closed}
 use Rattle.rules.proofs.LiteralsLaws.{above-iff}
 use Rattle.rules.proofs.ScopeLaws.{blockInRange-within, inRange-within, termInRange-within, within-blockInRange, within-inRange, within-termInRange}
 use Rattle.rules.proofs.Tests.{true-false}
+use Rattle.record.specs.declared.Conversion.{Conversion}
+use Rattle.record.specs.declared.Conversion.the-variants.{ToFirst, ToSecond}
 use Rattle.record.specs.declared.Edition.the-variants.{First, Second}
 use Rattle.record.specs.declared.Header.{Header}
 use Rattle.record.specs.declared.Sort.{Sort}
-use Rattle.record.specs.Header.{blockBytes, blockIn, ceilingField, contents, contentsAt, editionBy, editionField, formOf, isSecond, kField, kindField, kindOf, largestOf, lengthField, okOf, program, term, termIn}
+use Rattle.record.specs.Header.{blockBytes, blockIn, ceilingField, contents, contentsAt, convertedHeader, editionBy, editionField, formOf, isSecond, kField, kindField, kindOf, largestOf, lengthField, okOf, program, term, termIn}
 use Rattle.record.specs.Program.{BlockWords}
-use Rattle.record.specs.RowMeaning.{BadHeader, RowsMean}
-use Rattle.record.specs.Rows.{badBlock, badBuffer, badHeader, badK, badStore, badTerm, blockAbove, blockOf, blockOutside, finishedTerm, headerOf, isNone, kOf, openTerm, termAbove, termOf, termOutside, tooLong, unfinished, valuesAbove}
+use Rattle.record.specs.RowMeaning.{BadHeader, RowsMean, WrongEdition}
+use Rattle.record.specs.Rows.{badBlock, badBuffer, badHeader, badK, badStore, badTerm, blockAbove, blockOf, blockOutside, finishedTerm, headerOf, isNone, kOf, openTerm, smallCeiling, termAbove, termOf, termOutside, tooLong, unfinished, valuesAbove, wrongEdition}
 use Rattle.record.specs.Term.{TermWords, encodeTermRecord, same}
 use Rattle.record.proofs.HeaderLaws.{blockIn-bytes, blockIn-sound, length-blockBytes, length-encodeTermRecord, termIn-bytes, termIn-sound}
 use Rattle.record.proofs.HeldLaws.{bytes-contents}
@@ -157,6 +159,61 @@ module _ (s : Sort) (first second : ℕ) (of-first : (k : ℕ) → kindOf s (rec
   unfolding editionField
   header-two = Iff·trans (header-bad s buf used) (plain (isSecond (kindField r)) refl)
 
+-- row 2 of a conversion: a record of the other edition is the wrong kind, and of its own edition it is what it is of every call
+module _ (first second used : ℕ) (r : List ℕ) (apart : first ≡ second → ⊥) where
+  first-alone : (BadHeader first second used r ⊎ (kindField r ≡ second)) ↔ WrongEdition 8 first used r
+  first-alone = (there, back)
+    where
+      not-first : kindField r ≡ second → kindField r ≡ first → ⊥
+      not-first e q = apart (sym q ∙ e)
+
+      there : BadHeader first second used r ⊎ (kindField r ≡ second) → WrongEdition 8 first used r
+      there (inl (inl h)) = inl h
+      there (inl (inr (inl v))) = inr (inl (not-first (v .0)))
+      there (inl (inr (inr (inl v)))) = inr (inl (v .0))
+      there (inl (inr (inr (inr h)))) = inr (inr h)
+      there (inr e) = inr (inl (not-first e))
+
+      wrong-kind : Dec (kindField r ≡ second) → (kindField r ≡ first → ⊥) → BadHeader first second used r ⊎ (kindField r ≡ second)
+      wrong-kind (yes e) h = inr e
+      wrong-kind (no n) h = inl (inr (inr (inl (h, n))))
+
+      back : WrongEdition 8 first used r → BadHeader first second used r ⊎ (kindField r ≡ second)
+      back (inl h) = inl (inl h)
+      back (inr (inl h)) = wrong-kind (same (kindField r) second) h
+      back (inr (inr h)) = inl (inr (inr (inr h)))
+
+  second-alone : (BadHeader first second used r ⊎ (kindField r ≡ first)) ↔ WrongEdition 12 second used r
+  second-alone = (there, back)
+    where
+      there : BadHeader first second used r ⊎ (kindField r ≡ first) → WrongEdition 12 second used r
+      there (inl (inl h)) = inl (omega arith)
+      there (inl (inr (inl v))) = inl (v .1)
+      there (inl (inr (inr (inl v)))) = inr (inl (v .1))
+      there (inl (inr (inr (inr h)))) = inr (inr h)
+      there (inr e) = inr (inl (λ q. apart (sym e ∙ q)))
+
+      wrong-kind : Dec (kindField r ≡ first) → (kindField r ≡ second → ⊥) → BadHeader first second used r ⊎ (kindField r ≡ first)
+      wrong-kind (yes e) h = inr e
+      wrong-kind (no n) h = inl (inr (inr (inl (n, h))))
+
+      cut : Dec (kindField r ≡ second) → used < 12 → BadHeader first second used r ⊎ (kindField r ≡ first)
+      cut (yes e) h = inl (inr (inl (e, h)))
+      cut (no n) h = wrong-kind (same (kindField r) first) n
+
+      back : WrongEdition 12 second used r → BadHeader first second used r ⊎ (kindField r ≡ first)
+      back (inl h) = cut (same (kindField r) second) h
+      back (inr (inl h)) = wrong-kind (same (kindField r) first) h
+      back (inr (inr h)) = inl (inr (inr (inr h)))
+
+wrong-iff : {A : Type 0} (s : Sort) (to : Conversion) (buf : List ℕ) (used n : ℕ) → kindOf s (convertedHeader to (headerOf buf used)) ≡ n
+    → (badHeader s buf used ≡ true) ↔ A → (wrongEdition s to buf used ≡ true) ↔ (A ⊎ (kindField (take used buf) ≡ n))
+unfolding wrongEdition
+wrong-iff s to buf used n e h =
+    let kind : ℕ = kindOf s (convertedHeader to (headerOf buf used)) in
+    or-iff (badHeader s buf used) (eqb (kindField (take used buf)) kind) h
+    (Iff·trans (eqb-iff (kindField (take used buf)) kind) ((λ q. q ∙ e), (λ q. q ∙ sym e)))
+
 -- the ceiling that a header has
 module _ (buf : List ℕ) (used : ℕ) where
   abbrev theKind : ℕ
@@ -179,11 +236,15 @@ module _ (buf : List ℕ) (used : ℕ) where
       go false e = refl
 
 pub rows-mean : RowsMean
-unfolding badBuffer tooLong kindOf formOf isSecond badK badBlock badTerm blockOutside termOutside badStore openTerm unfinished blockAbove termAbove valuesAbove
+unfolding badBuffer tooLong kindOf formOf isSecond badK badBlock badTerm blockOutside termOutside badStore openTerm unfinished blockAbove termAbove valuesAbove smallCeiling convertedHeader
 rows-mean = record {
   one = λ buf used. or-iff (ltb 16384 (length buf)) (ltb (length buf) used) (ltb-iff 16384 (length buf)) (ltb-iff (length buf) used);
   two = header-two program 7 9 (λ k. refl) (λ k c. refl) refl refl;
   twoTerm = header-two term 40 41 (λ k. refl) (λ k c. refl) refl refl;
+  twoToSecond = λ buf used. Iff·trans (wrong-iff program ToSecond buf used 9 refl (header-two program 7 9 (λ k. refl) (λ k c. refl) refl refl buf used)) (first-alone 7 9 used (take used buf) (λ e. omega arith));
+  twoToFirst = λ buf used. Iff·trans (wrong-iff program ToFirst buf used 7 refl (header-two program 7 9 (λ k. refl) (λ k c. refl) refl refl buf used)) (second-alone 7 9 used (take used buf) (λ e. omega arith));
+  twoTermToSecond = λ buf used. Iff·trans (wrong-iff term ToSecond buf used 41 refl (header-two term 40 41 (λ k. refl) (λ k c. refl) refl refl buf used)) (first-alone 40 41 used (take used buf) (λ e. omega arith));
+  twoTermToFirst = λ buf used. Iff·trans (wrong-iff term ToFirst buf used 40 refl (header-two term 40 41 (λ k. refl) (λ k c. refl) refl refl buf used)) (second-alone 40 41 used (take used buf) (λ e. omega arith));
   three = λ buf used. not-iff (inRange 16 (kOf buf used)) (inRange-within 16 (kOf buf used), within-inRange 16 (kOf buf used));
   four = λ buf used hb l. curry-iff (none-iff {Q = λ P. BlockWords P × (contents (take used buf) ≡ blockBytes P)} (blockOf buf used)
       (λ P e. let s = blockIn-sound (contents (take used buf)) P (bytes-contents used buf hb) e in (s .1, s .0))
@@ -204,6 +265,7 @@ rows-mean = record {
   fifteenTerm = λ buf used t e. rw (holds-some (λ u. not (smallValues (okOf (headerOf buf used)) (numeralsIn u))) (termOf buf used) t e)
       (above-iff (largestOf (headerOf buf used)) (numeralsIn t));
   sixteen = λ buf used values. above-iff (largestOf (headerOf buf used)) values;
+  seventeen = λ buf used. ltb-iff (largestOf (headerOf buf used)) 4294967295;
   ceiling = has-ceiling;
   noCeiling = no-ceiling;
 }

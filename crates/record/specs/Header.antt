@@ -9,6 +9,8 @@ use lib.ListN.{drop, take}
 use Rattle.buffer.specs.LittleEndian.{le, val}
 use Rattle.rules.specs.Store.{upTo}
 use Rattle.rules.specs.Syntax.{Block, Term}
+use Rattle.record.specs.declared.Conversion.{Conversion}
+use Rattle.record.specs.declared.Conversion.the-variants.{ToFirst, ToSecond}
 use Rattle.record.specs.declared.Edition.{Edition}
 use Rattle.record.specs.declared.Edition.the-variants.{First, Second}
 use Rattle.record.specs.declared.Header.{Header}
@@ -140,3 +142,19 @@ encodeProgram h t = headed program h (blockBytes t)
 -- The record of a term with its header: the header, and the term.
 unfoldable pub encodeTerm : Header → Term → List ℕ
 encodeTerm h t = headed term h (encodeTermRecord t)
+
+-- MOVED FROM ONE EDITION TO THE OTHER (02 C-18)
+
+-- The move back.
+abbrev pub opposite : Conversion → Conversion
+opposite ToFirst = ToSecond
+opposite ToSecond = ToFirst
+
+-- The header in the edition asked for, with the same k: in edition 2 with the largest ceiling, which is the largest value.
+unfoldable pub convertedHeader : Conversion → Header → Header
+convertedHeader ToFirst h = record { k = h .k; edition = First }
+convertedHeader ToSecond h = record { k = h .k; edition = Second 4294967295 }
+
+-- The record in the edition asked for: the same contents behind that header.
+unfoldable pub convertedRecord : Sort → Conversion → List ℕ → List ℕ
+convertedRecord s to r = headed s (convertedHeader to (headerIn r)) (contents r)

@@ -12,9 +12,10 @@ use Rattle.rules.specs.FreeVariables.{Free}
 use Rattle.rules.specs.Literals.{Among, literalsIn, numeralsIn}
 use Rattle.rules.specs.Scope.{BlockWithin, TermWithin, Within}
 use Rattle.rules.specs.Syntax.{Atom, Block, Term, tuple}
+use Rattle.record.specs.declared.Conversion.the-variants.{ToFirst, ToSecond}
 use Rattle.record.specs.Header.{blockBytes, contents, kindField, largestOf, lengthField, program, term}
 use Rattle.record.specs.Program.{BlockWords}
-use Rattle.record.specs.Rows.{badBlock, badBuffer, badHeader, badK, badStore, badTerm, blockAbove, blockOf, blockOutside, headerOf, kOf, openTerm, termAbove, termOf, termOutside, unfinished, valuesAbove}
+use Rattle.record.specs.Rows.{badBlock, badBuffer, badHeader, badK, badStore, badTerm, blockAbove, blockOf, blockOutside, headerOf, kOf, openTerm, termAbove, termOf, smallCeiling, termOutside, unfinished, valuesAbove, wrongEdition}
 use Rattle.record.specs.Term.{TermWords, encodeTermRecord}
 
 -- Refusal 2 of a record r whose kind is to be `first`, or in edition 2 `second`.
@@ -25,7 +26,11 @@ BadHeader first second used r =
     ⊎ (((kindField r ≡ first → ⊥) × (kindField r ≡ second → ⊥))
     ⊎ (lengthField r ≡ used → ⊥)))
 
--- The test of each row from 1 to 8, of 15 and of 16 says that the row applies exactly where the plain fact beside it holds: row 4's for
+-- Refusal 2 of a conversion, of a record r that is to be of one edition alone: of n bytes its header, and of this kind (02 C-18).
+abbrev pub WrongEdition : ℕ → ℕ → ℕ → List ℕ → Type 0
+WrongEdition n kind used r = (used < n) ⊎ ((kindField r ≡ kind → ⊥) ⊎ (lengthField r ≡ used → ⊥))
+
+-- The test of each row from 1 to 8 and from 15 to 17 says that the row applies exactly where the plain fact beside it holds: row 4's for
 -- bytes in a buffer of at most 16,384, and those of rows 5, 7, 8 and 15 where the record holds a block or a term.
 pub record RowsMean : Type 0 where
   -- 1: a buffer above 16,384 bytes, or used length above its buffer
@@ -33,6 +38,11 @@ pub record RowsMean : Type 0 where
   -- 2: under 8 bytes used, or kind 9 and under 12, or wrong kind, or length not the used length; of a program and of a term
   pub two : (buf : List ℕ) (used : ℕ) → (badHeader program buf used ≡ true) ↔ BadHeader 7 9 used (take used buf)
   pub twoTerm : (buf : List ℕ) (used : ℕ) → (badHeader term buf used ≡ true) ↔ BadHeader 40 41 used (take used buf)
+  -- 2, of a conversion: to edition 2 it takes kind 7, or 40, alone, and to edition 1 kind 9, or 41
+  pub twoToSecond : (buf : List ℕ) (used : ℕ) → (wrongEdition program ToSecond buf used ≡ true) ↔ WrongEdition 8 7 used (take used buf)
+  pub twoToFirst : (buf : List ℕ) (used : ℕ) → (wrongEdition program ToFirst buf used ≡ true) ↔ WrongEdition 12 9 used (take used buf)
+  pub twoTermToSecond : (buf : List ℕ) (used : ℕ) → (wrongEdition term ToSecond buf used ≡ true) ↔ WrongEdition 8 40 used (take used buf)
+  pub twoTermToFirst : (buf : List ℕ) (used : ℕ) → (wrongEdition term ToFirst buf used ≡ true) ↔ WrongEdition 12 41 used (take used buf)
   -- 3: k not 1 to 16
   pub three : (buf : List ℕ) (used : ℕ) → (badK buf used ≡ true) ↔ (Within 16 (kOf buf used) → ⊥)
   -- 4: bytes outside the grammar: no block, and no term of k, has them as its record
@@ -57,7 +67,9 @@ pub record RowsMean : Type 0 where
   -- 16: a value above the ceiling, of those that are read
   pub sixteen : (buf : List ℕ) (used : ℕ) (values : List ℕ)
       → (valuesAbove buf used values ≡ true) ↔ ((n : ℕ) × Among n values × (largestOf (headerOf buf used) < n))
-  -- the ceiling of these two: the 4 bytes behind k where the kind is one of edition 2, and else the largest value
+  -- 17: a ceiling smaller than the largest value
+  pub seventeen : (buf : List ℕ) (used : ℕ) → (smallCeiling buf used ≡ true) ↔ (largestOf (headerOf buf used) < 4294967295)
+  -- the ceiling of these three: the 4 bytes behind k where the kind is one of edition 2, and else the largest value
   pub ceiling : (buf : List ℕ) (used : ℕ) → (kindField (take used buf) ≡ 9) ⊎ (kindField (take used buf) ≡ 41)
       → largestOf (headerOf buf used) ≡ val (take 4 (drop 8 (take used buf)))
   pub noCeiling : (buf : List ℕ) (used : ℕ) → (kindField (take used buf) ≡ 9 → ⊥) → (kindField (take used buf) ≡ 41 → ⊥)

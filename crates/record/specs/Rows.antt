@@ -12,9 +12,11 @@ use Rattle.rules.specs.FreeVariables.{closed}
 use Rattle.rules.specs.Literals.{literalsIn, numeralsIn, smallValues}
 use Rattle.rules.specs.Scope.{blockInRange, inRange, termInRange}
 use Rattle.rules.specs.Syntax.{Block, Term, empty, letAll, letOne, rec, tuple}
+use Rattle.record.specs.declared.Conversion.{Conversion}
 use Rattle.record.specs.declared.Header.{Header}
+use Rattle.record.specs.declared.Sort.the-variants as sort
 use Rattle.record.specs.declared.Sort.{Sort}
-use Rattle.record.specs.Header.{blockIn, contents, contentsAt, headerIn, kField, kindField, kindOf, lengthField, okOf, program, term, termIn}
+use Rattle.record.specs.Header.{blockIn, contents, contentsAt, convertedHeader, headerIn, kField, kindField, kindOf, largestOf, lengthField, okOf, program, term, termIn}
 
 -- A LIST OF ROWS
 
@@ -108,6 +110,10 @@ badHeader s buf used =
     ltb used (contentsAt (headerOf buf used))
     || (not (eqb (kindField (recordIn buf used)) (kindOf s (headerOf buf used))) || not (eqb (lengthField (recordIn buf used)) used))
 
+-- 2, of a conversion: the same, or the record is already in the edition asked for, which is a wrong kind (02 C-18)
+unfoldable pub wrongEdition : Sort → Conversion → List ℕ → ℕ → Bool
+wrongEdition s to buf used = badHeader s buf used || eqb (kindField (recordIn buf used)) (kindOf s (convertedHeader to (headerOf buf used)))
+
 -- 3: k not 1 to 16
 unfoldable pub badK : List ℕ → ℕ → Bool
 badK buf used = not (inRange 16 (kOf buf used))
@@ -135,6 +141,10 @@ blockAbove buf used = holds (λ t. not (smallValues (okOf (headerOf buf used)) (
 -- The same of a term: a numeral.
 unfoldable pub termAbove : List ℕ → ℕ → Bool
 termAbove buf used = holds (λ t. not (smallValues (okOf (headerOf buf used)) (numeralsIn t))) (termOf buf used)
+
+-- 17: the ceiling is smaller than the largest value (02 C-18)
+unfoldable pub smallCeiling : List ℕ → ℕ → Bool
+smallCeiling buf used = ltb (largestOf (headerOf buf used)) 4294967295
 
 -- 6: not k values
 unfoldable pub badStore : List ℕ → ℕ → List ℕ → Bool
@@ -184,3 +194,10 @@ limitedProgramRows buf used more = programRows buf used (row 15 (blockAbove buf 
 -- The same of a term.
 abbrev pub limitedTermRows : List ℕ → ℕ → List Row → List Row
 limitedTermRows buf used more = termRows buf used (row 15 (termAbove buf used) ∷ more)
+
+-- Rows 2 to 5 and 15 of a record of either sort, where the test of row 2 is given, and then more.
+abbrev pub limitedRows : Sort → Bool → List ℕ → ℕ → List Row → List Row
+limitedRows sort.Program two buf used more =
+    row 2 two ∷ row 3 (badK buf used) ∷ row 4 (badBlock buf used) ∷ row 5 (blockOutside buf used) ∷ row 15 (blockAbove buf used) ∷ more
+limitedRows sort.Term two buf used more =
+    row 2 two ∷ row 3 (badK buf used) ∷ row 4 (badTerm buf used) ∷ row 5 (termOutside buf used) ∷ row 15 (termAbove buf used) ∷ more

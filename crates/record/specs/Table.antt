@@ -20,6 +20,8 @@ pub data Place : Type 0 where
   writingOut : Place
   batch : Place
   readStore : Place
+  conversion : Place
+  conversionBack : Place
 
 -- A row of the table: the places that it names, and its number.
 pub record Entry : Type 0 where
@@ -31,7 +33,7 @@ abbrev pub entry : List Place → ℕ → Entry
 entry ps n = record { places = ps; number = n }
 
 -- THE TABLE. Row 11 is C-11's; 12 and 13 are C-14's, of the counting stepper and of the writing out alone; 14 is C-16's; 15 and 16 are
--- C-17's: a record's literals or numerals, and a store that is read, with what a state holds.
+-- C-17's: a record's literals or numerals, and a store that is read, with what a state holds; 17 is C-18's, of moving back alone.
 abbrev pub table : List Entry
 table =
     entry (buffers ∷ []) 1
@@ -42,6 +44,7 @@ table =
     ∷ entry (records ∷ []) 5
     ∷ entry (counting ∷ []) 12
     ∷ entry (records ∷ []) 15
+    ∷ entry (conversionBack ∷ []) 17
     ∷ entry (store ∷ []) 6
     ∷ entry (weighing ∷ []) 11
     ∷ entry (counting ∷ []) 13
@@ -49,7 +52,7 @@ table =
     ∷ entry (reducer ∷ result ∷ []) 7
     ∷ entry (result ∷ []) 8
     ∷ entry (readBack ∷ []) 9
-    ∷ entry (translator ∷ readBack ∷ writingOut ∷ batch ∷ []) 10
+    ∷ entry (translator ∷ readBack ∷ writingOut ∷ batch ∷ conversion ∷ []) 10
     ∷ []
 
 -- Some element of the list passes the test.
@@ -78,6 +81,8 @@ placeNumber translator = 9
 placeNumber writingOut = 10
 placeNumber batch = 11
 placeNumber readStore = 12
+placeNumber conversion = 13
+placeNumber conversionBack = 14
 
 -- The two places are the same.
 abbrev pub samePlace : Place → Place → Bool

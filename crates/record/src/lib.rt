@@ -4,8 +4,9 @@ ghost use mathlib.Core.Path.{_≡_};
 ghost use Prim.Native.Nat.{_≤_};
 ghost use lib.ListN.{length};
 ghost use Rattle.buffer.specs.Slice.{put};
+ghost use Rattle.record.specs.declared.Header.{Header};
 ghost use Rattle.record.specs.Class.{classOf};
-ghost use Rattle.record.specs.Header.{contentsAt, fieldsOf, headerIn, isSecond, kindOf, largestOf};
+ghost use Rattle.record.specs.Header.{contentsAt, convertedHeader, fieldsOf, headerIn, isSecond, kindOf, largestOf};
 
 pub mod kind;
 pub mod limit;
@@ -29,11 +30,20 @@ pub struct Header {
     pub edition: Edition,
 }
 
+// A record's move from one edition to the other (02 C-18).
+pub enum Conversion {
+    ToFirst,
+    ToSecond,
+}
+
 // Length, kind and k.
 const FIRST_LENGTH: usize = 8;
 
 // The same, and the ceiling.
 const SECOND_LENGTH: usize = 12;
+
+// The largest value, and so the largest ceiling.
+const LARGEST: u32 = 4294967295;
 
 impl Header {
     // Where the contents start.
@@ -53,7 +63,7 @@ impl Header {
     {
         let edition = self.edition;
         match edition {
-            Edition::First => 4294967295,
+            Edition::First => LARGEST,
             Edition::Second(ceiling) => ceiling,
         }
     }
@@ -74,6 +84,23 @@ impl Header {
         }
     }
 
+    // The header in the other edition, with the largest ceiling where that has one.
+    pub fn converted(self, to: Conversion) -> Header
+        ensures { λ r. ⌜ r ≡ convertedHeader to self ⌝ }
+    {
+        let k = self.k;
+        match to {
+            Conversion::ToFirst => Header {
+                k: k,
+                edition: Edition::First,
+            },
+            Conversion::ToSecond => Header {
+                k: k,
+                edition: Edition::Second(LARGEST),
+            },
+        }
+    }
+
     // Stores what stands behind length and kind.
     pub fn put_fields(self, out: &mut [u8])
         requires { ⌜ contentsAt self ≤ length (now out) ⌝ }
@@ -86,6 +113,17 @@ impl Header {
             Edition::Second(ceiling) => buffer::put_u32(out, FIRST_LENGTH, ceiling),
         }
     }
+}
+
+// The kind of a record of this sort once it is moved, which its k does not change.
+pub fn converted_kind(sort: Sort, to: Conversion) -> usize
+    ensures { λ r. ⌜ ((h : Header) → r ≡ kindOf sort (convertedHeader to h)) ⌝ }
+{
+    let any = Header {
+        k: 0,
+        edition: Edition::First,
+    };
+    any.converted(to).kind_of(sort)
 }
 
 fn is_second(kind: usize) -> bool

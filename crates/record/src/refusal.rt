@@ -25,6 +25,9 @@ pub const TOO_DEEP: u32 = 12;
 // A literal or a numeral above the ceiling (02 C-17).
 pub const LITERAL_ABOVE_CEILING: u32 = 15;
 
+// A ceiling smaller than the largest value, which edition 1 has no place for (02 C-18).
+pub const SMALL_CEILING: u32 = 17;
+
 // A store that has not the number of values asked for.
 pub const BAD_STORE: u32 = 6;
 

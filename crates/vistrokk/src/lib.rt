@@ -2,9 +2,12 @@
 // function and its answer back by value. A lent slice is a pointer and a length.
 ghost use mathlib.Core.Path.{_≡_};
 ghost use Rattle.record.specs.Answers.{checkProgram, checkTerm};
+ghost use Rattle.record.specs.declared.Conversion.the-variants.{ToFirst, ToSecond};
+ghost use Rattle.record.specs.Header.{program, term};
 ghost use Rattle.batch.specs.Represents.{asBatch};
 ghost use Rattle.batch.specs.RunBatch.{runBatch};
 ghost use Rattle.checker.specs.Answer.{asChecked};
+ghost use Rattle.conversion.specs.Convert.{convertCall};
 ghost use Rattle.counter.specs.Represents as counter;
 ghost use Rattle.counting.specs.CountingCall.{expandCall, runCounting};
 ghost use Rattle.run.specs.Represents.{inNumbers};
@@ -130,4 +133,48 @@ pub extern "C" fn vistrokk_run_batch(
     ensures { λ r. ⌜ asBatch r (now (term .exit)) (now (work .exit)) (now (answers .exit)) ≡ runBatch (now (program .entry)) used (now (term .entry)) (now (work .entry)) (now (budgets .entry)) (now (values .entry)) (now (answers .entry)) ⌝ }
 {
     batch::run_batch(program, used, term, work, budgets, values, answers)
+}
+
+#[no_mangle]
+pub extern "C" fn vistrokk_program_to_edition_2(
+    src: &[u8],
+    used: usize,
+    out: &mut [u8],
+) -> term::Written
+    ensures { λ r. ⌜ asWrote r (now (out .exit)) ≡ convertCall program ToSecond (now (src .entry)) used (now (out .entry)) ⌝ }
+{
+    conversion::program_to_second(src, used, out)
+}
+
+#[no_mangle]
+pub extern "C" fn vistrokk_program_to_edition_1(
+    src: &[u8],
+    used: usize,
+    out: &mut [u8],
+) -> term::Written
+    ensures { λ r. ⌜ asWrote r (now (out .exit)) ≡ convertCall program ToFirst (now (src .entry)) used (now (out .entry)) ⌝ }
+{
+    conversion::program_to_first(src, used, out)
+}
+
+#[no_mangle]
+pub extern "C" fn vistrokk_term_to_edition_2(
+    src: &[u8],
+    used: usize,
+    out: &mut [u8],
+) -> term::Written
+    ensures { λ r. ⌜ asWrote r (now (out .exit)) ≡ convertCall term ToSecond (now (src .entry)) used (now (out .entry)) ⌝ }
+{
+    conversion::term_to_second(src, used, out)
+}
+
+#[no_mangle]
+pub extern "C" fn vistrokk_term_to_edition_1(
+    src: &[u8],
+    used: usize,
+    out: &mut [u8],
+) -> term::Written
+    ensures { λ r. ⌜ asWrote r (now (out .exit)) ≡ convertCall term ToFirst (now (src .entry)) used (now (out .entry)) ⌝ }
+{
+    conversion::term_to_first(src, used, out)
 }

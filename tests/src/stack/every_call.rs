@@ -1,4 +1,4 @@
-//! The twelve calls, as the stack is measured of them, on records of both editions.
+//! The sixteen calls, as the stack is measured of them, on records of both editions.
 
 use super::Call;
 
@@ -6,6 +6,7 @@ pub fn every_call() -> Vec<Call> {
     let mut calls: Vec<Call> = Vec::new();
     calls.extend(check::calls());
     calls.extend(terms::calls());
+    calls.extend(editions::calls());
     calls.extend(weigh::calls());
     calls.extend(stepper::calls());
     calls.extend(counting::calls());
@@ -73,6 +74,49 @@ mod terms {
             other: |s| calls::result(&s.buffer, s.used, &mut s.store),
         };
         [translate, read_back, substitute, result]
+    }
+}
+
+mod editions {
+    use super::Call;
+    use crate::extremes::{programs_to_move, terms_to_move};
+    use crate::{calls, library};
+
+    pub fn calls() -> [Call; 4] {
+        let program_to_edition_2 = Call {
+            name: "program_to_edition_2",
+            limit: 2_048,
+            records: programs_to_move,
+            library: |s| library::program_to_edition_2(&s.buffer, s.used, &mut s.out).number,
+            other: |s| calls::program_to_edition_2(&s.buffer, s.used, &mut s.out).number,
+        };
+        let program_to_edition_1 = Call {
+            name: "program_to_edition_1",
+            limit: 2_048,
+            records: programs_to_move,
+            library: |s| library::program_to_edition_1(&s.buffer, s.used, &mut s.out).number,
+            other: |s| calls::program_to_edition_1(&s.buffer, s.used, &mut s.out).number,
+        };
+        let term_to_edition_2 = Call {
+            name: "term_to_edition_2",
+            limit: 2_048,
+            records: terms_to_move,
+            library: |s| library::term_to_edition_2(&s.buffer, s.used, &mut s.out).number,
+            other: |s| calls::term_to_edition_2(&s.buffer, s.used, &mut s.out).number,
+        };
+        let term_to_edition_1 = Call {
+            name: "term_to_edition_1",
+            limit: 2_048,
+            records: terms_to_move,
+            library: |s| library::term_to_edition_1(&s.buffer, s.used, &mut s.out).number,
+            other: |s| calls::term_to_edition_1(&s.buffer, s.used, &mut s.out).number,
+        };
+        [
+            program_to_edition_2,
+            program_to_edition_1,
+            term_to_edition_2,
+            term_to_edition_1,
+        ]
     }
 }
 

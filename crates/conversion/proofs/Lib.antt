@@ -1,0 +1,4 @@
+pub mod ConvertLaws
+pub mod ConversionMeaningLaws
+pub mod WritingLaws
+pub mod AnsweredLaws

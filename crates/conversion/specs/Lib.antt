@@ -1,0 +1,3 @@
+pub mod Convert
+pub mod ConversionMeaning
+pub mod Converting

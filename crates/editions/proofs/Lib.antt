@@ -1,0 +1,10 @@
+pub mod RoomLaws
+pub mod MovedLaws
+pub mod OrderLaws
+pub mod StepperLaws
+pub mod ReducerLaws
+pub mod CountingLaws
+pub mod SameRunsLaws
+pub mod BatchLaws
+pub mod StartLaws
+pub mod SameEndsLaws

@@ -1,0 +1,3 @@
+pub mod SameRuns
+pub mod SameEnds
+pub mod SameBatch
