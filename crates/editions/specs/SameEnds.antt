@@ -14,14 +14,15 @@ use Rattle.record.specs.Program.{BlockWords}
 use Rattle.record.specs.Term.{TermWords}
 use Rattle.rules.specs.Syntax.{Block, Term}
 
--- A header of edition 1, and the same moved.
+-- A header of edition 1.
 abbrev pub old : Header → Header
 old h = convertedHeader ToFirst h
 
+-- The same moved to edition 2.
 abbrev pub new : Header → Header
 new h = convertedHeader ToSecond h
 
--- A stepper in both worlds: what it holds, and that it has come to an end, finished or over.
+-- A stepper in both worlds: what it holds in each, that equal totals leave it the same, and that both ends, finished or over, are at one total.
 pub record StepperEnds (h : Header) (P : Block) (e : Stepper) (w v : World) : Type 0 where
   -- its block in the one and in the other; their numbers take 4 bytes, so that the bytes are no others'
   pub Q : Block
@@ -36,7 +37,7 @@ pub record StepperEnds (h : Header) (P : Block) (e : Stepper) (w v : World) : Ty
   pub atEnd : Finished Q ⊎ Over (old h) Q (storeIn e ((w (steps e)) .memory)) → Finished R ⊎ Over (new h) R (storeIn e ((v (steps e)) .memory))
       → (v (steps e)) .total ≡ (w (steps e)) .total
 
--- The reducer in both worlds.
+-- The same of the reducer.
 pub record ReducerEnds (h : Header) (w v : World) : Type 0 where
   pub t : Term
   pub u : Term
