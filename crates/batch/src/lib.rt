@@ -1,5 +1,7 @@
 // A batch (02 C-16): one program, and the reducer's run on each of up to 64 start stores. The program is checked and translated once;
 // each job then works on bytes that are known to be good, so nothing is checked again.
+#![tactic(auto)]
+
 pub mod job;
 
 ghost use Rattle.std.specs.Prelude.{◌≡◌, []};

@@ -1,5 +1,7 @@
 // Whether some command assigns a variable used as a loop bound (02 C-19, refusal 18): two passes over a checked program's bytes, with a
 // mark for each variable. Commands are met in the order of their bytes, at whatever depth, so neither pass needs a stack.
+#![tactic(auto)]
+
 ghost use Rattle.std.specs.Prelude.{◌≡◌, ◌||◌, not, ℕ, ◌+◌, ◌≤◌, ◌<◌, length};
 ghost use Rattle.rules.specs.Scope.{BoundWithin};
 ghost use Rattle.rules.specs.Syntax.{Block, Bound, loop};

@@ -1,5 +1,7 @@
 // Reads and writes of a lent slice of bytes. Every contract is one equation over the whole slice and a position in it, so
 // that a caller sees no index and cites the laws of put and part.
+#![tactic(auto)]
+
 ghost use Rattle.std.specs.Prelude.{◌≡◌, ◌+◌, ◌≤◌, ◌<◌, length};
 ghost use Rattle.buffer.specs.LittleEndian.{le, val};
 ghost use Rattle.buffer.specs.Slice.{put, part, zeros};

@@ -1,4 +1,6 @@
 // The words of a state as every one is handed out (02 C-14): 0 for what it does not hold, 1 for a mark that is only not 0.
+#![tactic(auto)]
+
 ghost use Rattle.std.specs.Prelude.{◌≡◌, ◌+◌, ◌≤◌, length};
 ghost use Rattle.counting.specs.Held.{canonical, mark};
 ghost use Rattle.counting.specs.StateWords.{held_from, packed, unpacked};

@@ -1,5 +1,7 @@
 // What the check of a program and the check of a term share: rows 1 to 3, a variable number's range, a value beside the
 // largest one, what is found of a record's contents (rows 4, 5 and 15), and the answer; and row 16's test of values.
+#![tactic(auto)]
+
 ghost use Rattle.std.specs.Prelude.{◌≡◌, false, not, ltb};
 ghost use Rattle.rules.specs.Literals.{small_values};
 ghost use Rattle.rules.specs.Scope.{in_range};
@@ -15,7 +17,7 @@ use record::{Sort, limit, refusal};
 
 // What the contents of a record are found to be. Row 4 comes before row 5 and row 5 before row 15, wherever they are found, so
 // malformed is worse than outside, and outside worse than above.
-#[derive(Drop)]
+#[derive(Clone, Copy)]
 pub enum Verdict {
     Good,
     Above,
@@ -25,7 +27,7 @@ pub enum Verdict {
 
 // The answer of a check: the number of the refusal, or 0 and k.
 #[repr(C)]
-#[derive(Drop)]
+#[derive(Clone, Copy)]
 pub struct Checked {
     pub number: u32,
     pub k: u32,

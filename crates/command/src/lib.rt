@@ -1,5 +1,7 @@
 // The next step of a configuration, looked up before a byte is written (01 "Stepper"): its plan, from the bytes and the store,
 // with nothing changed.
+#![tactic(auto)]
+
 ghost use Rattle.std.specs.Prelude.{◌≡◌, ℕ, ◌+◌, ◌*◌, ◌≤◌, ◌<◌, length};
 ghost use Rattle.rules.specs.Syntax.{Block, Bound, Expr, assign, loop};
 ghost use Rattle.rules.specs.Scope.{BoundWithin, ExprWithin};

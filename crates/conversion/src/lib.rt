@@ -1,5 +1,7 @@
 // The calls that move a record from one edition to the other (02 C-18): the same contents behind another header, into another buffer. A
 // program and a term differ in their check alone, the two directions in the header and in row 17.
+#![tactic(auto)]
+
 ghost use Rattle.std.specs.Prelude.{◌≡◌, List, ◌+◌, ◌≤◌, ℕ, length};
 ghost use Rattle.record.specs.Answers.{padded};
 ghost use Rattle.record.specs.Header.{contents_at, headed};

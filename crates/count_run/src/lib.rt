@@ -1,4 +1,6 @@
 // The run of the counting stepper (02 C-14): one step after another in the lent words and store. It never answers no room.
+#![tactic(auto)]
+
 ghost use Rattle.std.specs.Prelude.{◌≡◌, length};
 ghost use Rattle.record.specs.declared.Header.{Header};
 ghost use Rattle.record.specs.Header.{largest_of};

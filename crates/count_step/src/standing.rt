@@ -68,7 +68,7 @@ pub fn open_blocks(buf: &[u8], used: usize, words: &mut [u32], n: usize, start: 
 }
 
 // How many are open, and the kind of what stands there.
-#[derive(Drop)]
+#[derive(Clone, Copy)]
 pub struct Innermost {
     pub many: usize,
     pub kind: usize,

@@ -6,7 +6,7 @@ ghost use Rattle.counter.specs.Represents.{in_numbers};
 use run::RunEnd;
 
 #[repr(C)]
-#[derive(Drop)]
+#[derive(Clone, Copy)]
 pub struct CountedNumbers {
     pub number: u32,
     pub outcome: u32,

@@ -1,5 +1,7 @@
 // The calls of the counting stepper (02 C-14): here its run, the rows and then one step after another in the lent words and store.
 // It never answers no room.
+#![tactic(auto)]
+
 pub mod answer;
 pub mod check;
 pub mod expand;

@@ -1,5 +1,7 @@
 // Edits of records in place, for every crate that writes records: the pieces that are stored, bytes taken out, room made for
 // an unrolling, and the lengths around a place brought up to date.
+#![tactic(auto)]
+
 ghost use Rattle.std.specs.Prelude.{◌≡◌, ◌+◌, ◌*◌, ◌-◌, ◌≤◌, length};
 ghost use Rattle.buffer.specs.LittleEndian.{le, val};
 ghost use Rattle.buffer.specs.Slice.{part, put};

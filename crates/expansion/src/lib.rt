@@ -1,6 +1,8 @@
 // The configuration that a state of the counting stepper expands to (02 C-14), over bytes: its length, and its writing out.
 // Works on a checked program and on words that hold a state of it, and needs no stack: the entries are walked from the
 // outermost inwards.
+#![tactic(auto)]
+
 ghost use Rattle.std.specs.Prelude.{◌≡◌, false, true, List, ◌+◌, ◌-◌, ◌*◌, ◌≤◌, ◌<◌, ◌^◌, ℕ, get_or, length};
 ghost use Rattle.buffer.specs.Slice.{put};
 ghost use Rattle.rules.specs.Syntax.{Block};
@@ -152,7 +154,7 @@ pub fn expansion_size(buf: &[u8], used: usize, words: &[u32], start: usize) -> u
 
 // The place in the output that is still to be filled. What stands in front in it is written in front, and what stands behind
 // at its end; so what is open need not be remembered.
-#[derive(Drop)]
+#[derive(Clone, Copy)]
 struct Hole {
     front: usize,
     back: usize,

@@ -1,5 +1,7 @@
 // Room and steps foretold (02 C-19): the steps to the end, the longest configuration and the longest term on the way, of a program from
 // its start store and without a run. Rows 1 to 6, 15 and 16, then 18, then 19. Nothing is written.
+#![tactic(auto)]
+
 ghost use Rattle.std.specs.Prelude.{◌≡◌};
 ghost use Rattle.record.specs.Holding.{ProgramWithStore};
 ghost use Rattle.rules.specs.Syntax.{Block};
@@ -16,7 +18,7 @@ use step_forecast::{Steps, count_steps};
 
 // The number of the refusal and zeros, or 0 and the three figures.
 #[repr(C)]
-#[derive(Drop)]
+#[derive(Clone, Copy)]
 pub struct Forecast {
     pub number: u32,
     pub steps: u64,

@@ -1,4 +1,6 @@
 // The program: reads standard input to its end and prints the line that `report` makes of it.
+#![tactic(auto)]
+
 ghost use Rattle.std.specs.Prelude.{◌≡◌, ◌≤◌, length};
 ghost use Rattle.report.specs.Line.{program_buffer};
 

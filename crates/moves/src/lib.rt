@@ -1,4 +1,6 @@
 // Moves inside a lent slice and copies between two. Every contract is one equation over the whole slice, as in `buffer`.
+#![tactic(auto)]
+
 ghost use Rattle.std.specs.Prelude.{◌≡◌, ◌+◌, ◌≤◌, length};
 ghost use Rattle.buffer.specs.Slice.{part, put};
 

@@ -1,5 +1,7 @@
 // Whether a program is nested over 32 deep (02 C-14, refusal 12): one pass over its bytes, with the ends of at most 32 rows, two
 // bytes each.
+#![tactic(auto)]
+
 ghost use Rattle.std.specs.Prelude.{◌≡◌, Bool, ◌+◌, ◌≤◌, ◌<◌, ltb, length};
 ghost use Rattle.record.specs.Program.{block_size};
 ghost use Rattle.rules.specs.Syntax.{Block};
@@ -10,7 +12,7 @@ ghost use Rattle.nesting_check.specs.Rows.{Scanned, Turned};
 use record::kind::{ASSIGNMENT, BLOCK};
 
 // How many rows are open, and where the pass is.
-#[derive(Drop)]
+#[derive(Clone, Copy)]
 pub struct Scan {
     pub depth: usize,
     pub place: usize,

@@ -1,4 +1,6 @@
 // The numerals of a finished term, and values as a substitution.
+#![tactic(auto)]
+
 ghost use Rattle.std.specs.Prelude.{◌≡◌, List, map, ℕ, ◌<◌, ◌≤◌, get_or, length};
 ghost use Rattle.place.specs.TermView.{AtomsAt};
 ghost use Rattle.record.specs.Holding.{TermIn};

@@ -1,5 +1,7 @@
 // What the next step is, looked up before a byte is written (01 "Stepper", "Reducer"). It is the same for both engines, because
 // they run in lock step: a rule of the one is a rule of the other.
+#![tactic(auto)]
+
 ghost use Rattle.std.specs.Prelude.{◌≡◌, suc, ◌<◌, ◌≤◌};
 ghost use Rattle.rules.specs.Store.{up_to};
 ghost use Rattle.run.specs.Represents.{as_outcome};
@@ -10,7 +12,7 @@ use run::Outcome;
 
 // What the next step does, in the stepper and in the reducer. Finished and Over make none; the others are the edits that the
 // paper's rules come to on bytes.
-#[derive(Drop)]
+#[derive(Clone, Copy)]
 pub enum Rule {
     // The outermost block is empty; a tuple.
     Finished,
@@ -31,7 +33,7 @@ pub enum Rule {
 
 // The edit: where the command or redex stands, how many blocks or let-alls are open around it, its variable and the value, and
 // how many bytes come and go there. So the length of the next state is known before a byte is written.
-#[derive(Drop)]
+#[derive(Clone, Copy)]
 pub struct Plan {
     pub rule: Rule,
     pub levels: usize,

@@ -1,4 +1,6 @@
 // The parts of the line, each written into a lent slice at an index. What is given is the index behind what was written.
+#![tactic(auto)]
+
 ghost use Rattle.std.specs.Prelude.{◌≡◌, ◌++◌, ◌+◌, ◌*◌, ◌≤◌, length, take};
 ghost use Rattle.buffer.specs.Slice.{put};
 ghost use Rattle.print.specs.Decimal.{decimal};

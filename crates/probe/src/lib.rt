@@ -1,5 +1,7 @@
 // What ./bench measures of the buffer layer: its moves, zeroing and copy for callers in other languages. A call whose places
 // do not lie within the slices does nothing. No crate is built upon this one.
+#![tactic(auto)]
+
 ghost use Rattle.std.specs.Prelude.{◌≡◌};
 ghost use Rattle.probe.specs.Probe.{inside, moved_down, moved_up, zeroed, copied};
 

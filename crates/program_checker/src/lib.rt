@@ -1,5 +1,7 @@
 // The check of a program. The device's stack is small and blocks nest deeply: of a command and the rest of its row the
 // shorter is checked by a call and the longer by the loop, so the calls nest no deeper than the logarithm of the length.
+#![tactic(auto)]
+
 ghost use Rattle.std.specs.Prelude.{false, ◌≡◌, drop, length};
 ghost use Rattle.record.specs.Answers.{check_program};
 ghost use Rattle.record.specs.Front.{Front, only, u16};
@@ -22,7 +24,7 @@ use record::kind::{ASSIGNMENT, BLOCK, LITERAL, LOOP, VARIABLE};
 use record::refusal::BAD_BUFFER;
 
 // A command that was opened: what its head was found to be, and where the commands inside it start.
-#[derive(Drop)]
+#[derive(Clone, Copy)]
 struct Opened {
     verdict: Verdict,
     inner: usize,

@@ -1,5 +1,7 @@
 // Read-back over bytes: the program's length, and the program written into another buffer. Works on a checked term that is a
 // translation, and meets its terms in the order of the bytes, as the test does (`recognition`): each once, and with no stack.
+#![tactic(auto)]
+
 ghost use Rattle.std.specs.Prelude.{◌≡◌, List, ◌++◌, ℕ, ◌+◌, ◌<◌, ◌≤◌, eqb, length};
 ghost use Rattle.std.proofs.Math.Option.{some};
 ghost use Rattle.buffer.specs.LittleEndian.{val};

@@ -1,19 +1,21 @@
 // The record reader (01 "Records"): the lent bytes and how far it has come. A struct that holds a reference is proved by
 // hand, so its functions are thin: below them stand ones on the bytes and a place (`read_head`, `skip`), and above them ones that
 // make a reader at a place and ask it (`head_at`, `after`), so that a caller sees neither.
+#![tactic(auto)]
+
 ghost use Rattle.std.specs.Prelude.{◌≡◌, drop};
 ghost use Rattle.record.specs.Front.{is_only};
 ghost use Rattle.reader.specs.Head.{head_at, next_at};
 ghost use Rattle.reader.specs.Readers.{onward_of, reader_at};
 
-#[derive(Drop)]
+#[derive(Clone, Copy)]
 pub struct Reader<'a> {
     pub bytes: &'a [u8],
     pub place: usize,
 }
 
 // What stands at a place: a record of this length and kind, nothing at all, or bytes that are no whole record.
-#[derive(Drop)]
+#[derive(Clone, Copy)]
 pub enum Head {
     Record(usize, usize),
     End,

@@ -1,5 +1,7 @@
 // Whether a checked term is the translation of a program (row 9). The terms inside a term stand behind its own bytes, so a
 // loop that steps over own bytes meets every term, at whatever depth, in the order of the bytes and with no stack.
+#![tactic(auto)]
+
 ghost use Rattle.std.specs.Prelude.{◌≡◌, not, List, ◌≤◌, length};
 ghost use Rattle.place.specs.TermView.{AtomsAt, TermAt};
 ghost use Rattle.record.specs.Holding.{TermIn};

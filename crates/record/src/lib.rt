@@ -1,5 +1,7 @@
 // The record layer's code: what the header of a program's or a term's record says, and what class a record is of. No crate
 // above knows how long a header is, its kinds or the largest value.
+#![tactic(auto)]
+
 ghost use Rattle.std.specs.Prelude.{◌≡◌, ◌≤◌, length};
 ghost use Rattle.buffer.specs.Slice.{put};
 ghost use Rattle.record.specs.declared.Header.{Header};
@@ -11,28 +13,28 @@ pub mod limit;
 pub mod refusal;
 
 // The two sorts of record that have a header.
-#[derive(Drop)]
+#[derive(Clone, Copy)]
 pub enum Sort {
     Program,
     Term,
 }
 
 // The editions of a record with a header: the first has no ceiling, the second its own.
-#[derive(Drop)]
+#[derive(Clone, Copy)]
 pub enum Edition {
     First,
     Second(u32),
 }
 
 // What a header says behind its length and its kind.
-#[derive(Drop)]
+#[derive(Clone, Copy)]
 pub struct Header {
     pub k: u32,
     pub edition: Edition,
 }
 
 // A record's move from one edition to the other (02 C-18).
-#[derive(Drop)]
+#[derive(Clone, Copy)]
 pub enum Conversion {
     ToFirst,
     ToSecond,
@@ -167,7 +169,7 @@ pub fn read_header(buf: &[u8]) -> Header
 }
 
 // The class of a record, by its kind.
-#[derive(Drop)]
+#[derive(Clone, Copy)]
 pub enum Class {
     Program,
     Expression,

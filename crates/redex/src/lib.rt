@@ -1,5 +1,7 @@
 // The next reduction of a closed term, looked up before a byte is written (01 "Reducer"): its plan, from the bytes, with nothing
 // changed.
+#![tactic(auto)]
+
 ghost use Rattle.std.specs.Prelude.{Bool, true, ◌≡◌, ℕ, ◌+◌, ◌*◌, ◌≤◌, length};
 ghost use Rattle.buffer.specs.LittleEndian.{val};
 ghost use Rattle.buffer.specs.Slice.{part};

@@ -8,7 +8,7 @@ use run::RunEnd;
 
 // A reduction replaces at most 2,048 variables, one for every 8 bytes of a buffer, and a run makes less than 2^32 of them: their sum
 // is below 2^43.
-#[derive(Drop)]
+#[derive(Clone, Copy)]
 pub struct Reduced {
     pub end: RunEnd,
     pub replaced: u64,
@@ -16,7 +16,7 @@ pub struct Reduced {
 
 // The same as it crosses the C boundary.
 #[repr(C)]
-#[derive(Drop)]
+#[derive(Clone, Copy)]
 pub struct ReducedNumbers {
     pub number: u32,
     pub outcome: u32,

@@ -1,4 +1,6 @@
 // The reducer's run: rows 1 to 5, 15 and 7, and then one reduction after another in the lent buffer.
+#![tactic(auto)]
+
 pub mod answer;
 
 ghost use Rattle.std.specs.Prelude.{length};

@@ -1,5 +1,7 @@
 // One reduction of a closed term made in place, by its plan (01 "Reducer"). Only the bytes of the redex and those behind it move;
 // the lengths around it are brought up to date by one loop.
+#![tactic(auto)]
+
 ghost use Rattle.std.specs.Prelude.{◌≡◌, List, map, ℕ, ◌+◌, ◌*◌, ◌-◌, ◌<◌, ◌≤◌, length};
 ghost use Rattle.buffer.specs.LittleEndian.{val};
 ghost use Rattle.buffer.specs.Slice.{part};
@@ -23,7 +25,7 @@ use record::kind::{LET_ALL, LET_ONE, NUMERAL};
 use substitution::substitute::substitute_at;
 
 // What a reduction leaves: the record's new length, and how many variables it replaced.
-#[derive(Drop)]
+#[derive(Clone, Copy)]
 pub struct Reduction {
     pub used: usize,
     pub replaced: usize,

@@ -1,6 +1,8 @@
 // The longest configuration and the longest term of a program from its start store, worked out without a run (02 C-19), over the
 // bytes of a checked program in which no command assigns a variable used as a loop bound. One walk finds both, with the weights of
 // the one or of the other: k is 0 for configurations, and the number of variables for terms.
+#![tactic(auto)]
+
 ghost use Rattle.std.specs.Prelude.{◌≡◌, ℕ, ◌+◌, ◌-◌, ◌*◌, ◌≤◌, ◌<◌, max, List, length};
 ghost use Rattle.rules.specs.Syntax.{Block};
 ghost use Rattle.translator.specs.RowTranslation.{RowAt};
@@ -11,7 +13,7 @@ ghost use Rattle.room_forecast.specs.Walked.{PartsOf, RowsTo, longest_found, own
 use step_forecast::look;
 
 // A row of commands from `from` up to `to`, what stands around it while it runs, and what it weighs.
-#[derive(Drop)]
+#[derive(Clone, Copy)]
 struct Part {
     from: usize,
     to: usize,
@@ -20,14 +22,14 @@ struct Part {
 }
 
 // What is inside a command weighs, and what is behind it.
-#[derive(Drop)]
+#[derive(Clone, Copy)]
 struct Weighed {
     inside: u64,
     behind: u64,
 }
 
 // The two parts of the first command of a row, that inside it and that behind it, and the longest found so far, that command counted.
-#[derive(Drop)]
+#[derive(Clone, Copy)]
 struct Parts {
     found: u64,
     inside: Part,

@@ -23,6 +23,7 @@ among-open : (S : Vars) (x : ℕ) (l : List Atom) → Among x l → S x ≡ fals
 unfolding closed_atoms closed_atom
 among-open S x (a ∷ l) (here p) e = and_l (closed_atom S a) (closed_atoms S l) (ap (closed_atom S) p ∙ e)
 among-open S x (a ∷ l) (there m) e = and_r (closed_atom S a) (closed_atoms S l) (among-open S x l m e)
+among-open S x [] x3 e = elim x3 [ ]
 
 simple-open : (S : Vars) (x : ℕ) (s : Simple) → atom_of_simple s ≡ ref x → S x ≡ false → closed_simple S s ≡ false
 unfolding closed_simple closed_atom

@@ -22,6 +22,8 @@ module _ (ok : ℕ → Bool) where
   unfolding step_assign
   assign-step x (inc y) s μ n (rule1 h) = rw h refl
   assign-step x (dec y) s μ n rule2 = refl
+  assign-step x (lit _) s μ n x3 = elim x3 [ ]
+  assign-step x (var _) s μ n x4 = elim x4 [ ]
 
   turn-zero : (x n : ℕ) (c s : Block) → n ≡ 0 → unroll_loop x n c s ≡ nest empty s
   unfolding unroll_loop

@@ -1,4 +1,6 @@
 // What the runs of all engines share: the outcome, the tally, and how a run ended.
+#![tactic(auto)]
+
 pub mod value;
 
 ghost use Rattle.std.specs.Prelude.{◌≡◌, ◌+◌, ◌<◌, ◌^◌};
@@ -6,7 +8,7 @@ ghost use Rattle.run.specs.Represents.{answered, as_outcome, as_run_answer, in_n
 ghost use Rattle.run.specs.RunAnswer.{outcome_number, refusal, room_reads};
 ghost use Rattle.run.specs.Tally.{advanced, ends_with, is_spent, started};
 
-#[derive(Drop)]
+#[derive(Clone, Copy)]
 pub enum Outcome {
     Finished,
     Over,
@@ -40,7 +42,7 @@ pub fn outcome_number(o: Outcome) -> u32
 }
 
 // 01's tally: steps made in this run, and budget left.
-#[derive(Drop)]
+#[derive(Clone, Copy)]
 pub struct Tally {
     pub steps: u32,
     pub left: u32,
@@ -99,7 +101,7 @@ pub fn ends(outcome: Outcome, tally: Tally) -> bool
 }
 
 // How a run ended. `number` is that of the refusal, 0 for a run that was made; `used` is the new used length.
-#[derive(Drop)]
+#[derive(Clone, Copy)]
 pub struct RunEnd {
     pub number: u32,
     pub outcome: Outcome,
@@ -110,7 +112,7 @@ pub struct RunEnd {
 
 // The same as it crosses the C boundary.
 #[repr(C)]
-#[derive(Drop)]
+#[derive(Clone, Copy)]
 pub struct RunNumbers {
     pub number: u32,
     pub outcome: u32,

@@ -1,5 +1,7 @@
 // Whether words hold a state of the program (02 C-14, refusal 13): the entries from the outermost inwards, over the words and
 // the program's bytes. A place is counted from the program's first command, which stands at `start`.
+#![tactic(auto)]
+
 pub mod counts;
 
 ghost use Rattle.std.specs.Prelude.{◌≡◌, ◌+◌, ◌≤◌, get_or, length};

@@ -1,5 +1,7 @@
 // Reads and edits of the 189 words of a state (02 C-14), of which every contract is one equation over all the words. How many
 // entries are open is no word: the caller knows it, and hands it over as n.
+#![tactic(auto)]
+
 ghost use Rattle.std.specs.Prelude.{◌≡◌, ◌+◌, ◌*◌, ◌≤◌, ◌<◌, ◌^◌, get_or, length};
 ghost use Rattle.counting.specs.Frames.{place_word};
 ghost use Rattle.state_words.specs.Entry.{entry_popped, entry_pushed, entry_put, last_loop, mark_by, place_in, place_put};

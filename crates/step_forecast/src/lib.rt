@@ -1,5 +1,7 @@
 // The steps of a program from its start store, worked out without a run (02 C-19), over the bytes of a checked program in which no
 // command assigns a variable used as a loop bound. And the first command of a row, as every figure's walk sees it.
+#![tactic(auto)]
+
 ghost use Rattle.std.specs.Prelude.{◌≡◌, ℕ, ◌+◌, ◌*◌, ◌≤◌, ◌<◌, length};
 ghost use Rattle.rules.specs.Evaluate.{assign_steps};
 ghost use Rattle.rules.specs.Scope.{BoundWithin};
@@ -13,7 +15,7 @@ ghost use Rattle.step_forecast.specs.Wide.{as_wide, wide};
 use record::kind::{BLOCK, LOOP, PLUS_ONE};
 
 // A number of steps, or that it is too large for the answer (refusal 19).
-#[derive(Drop)]
+#[derive(Clone, Copy)]
 pub enum Steps {
     Number(u64),
     TooLarge,
@@ -24,7 +26,7 @@ const MOST: u64 = 18446744073709551615;
 
 // The first command of a row: its own steps, how often what is inside it is run, where that starts, and where it ends, which is where
 // the rest of the row starts.
-#[derive(Drop)]
+#[derive(Clone, Copy)]
 pub struct Head {
     pub steps: u64,
     pub turns: u64,

@@ -1,4 +1,6 @@
 // The stepper's run: rows 1 to 6, 15 and 16, and then one step after another in the lent buffer and store.
+#![tactic(auto)]
+
 ghost use Rattle.std.specs.Prelude.{◌≡◌, length};
 ghost use Rattle.rules.specs.Syntax.{Block};
 ghost use Rattle.record.specs.Holding.{ProgramWithStore};

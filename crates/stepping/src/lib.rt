@@ -1,5 +1,7 @@
 // One step of a configuration made in place, by its plan (01 "Stepper"). Only the bytes of the command and those behind it move;
 // the lengths around it are brought up to date by one loop.
+#![tactic(auto)]
+
 ghost use Rattle.std.specs.Prelude.{◌≡◌, ◌+◌, ◌<◌, ◌≤◌, length};
 ghost use Rattle.rules.specs.Rules.{at};
 ghost use Rattle.rules.specs.Syntax.{Block};

@@ -1,5 +1,7 @@
 // The calls on terms. Each checks its whole record (rows 1 to 5 and 15) and then does its work in a function of its own, which asks for
 // what the check has made sure of.
+#![tactic(auto)]
+
 ghost use Rattle.std.specs.Prelude.{◌≡◌, ◌≤◌};
 ghost use Rattle.term.specs.Answer.{refused_with, wrote_bytes};
 
@@ -10,7 +12,7 @@ pub mod translate;
 
 // The answer of a call that writes a buffer: the number of the refusal and 0, or 0 and the new used length.
 #[repr(C)]
-#[derive(Drop)]
+#[derive(Clone, Copy)]
 pub struct Written {
     pub number: u32,
     pub used: u32,

@@ -14,7 +14,7 @@ use term_checker::check_term;
 
 // The number of the refusal, and 0 for the rest; or 0, the used length, and how many variables were replaced (02 C-13).
 #[repr(C)]
-#[derive(Drop)]
+#[derive(Clone, Copy)]
 pub struct Substituted {
     pub number: u32,
     pub used: u32,

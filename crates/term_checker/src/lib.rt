@@ -1,5 +1,7 @@
 // The check of a term. A term is judged by all of the slice that it is lent, so that what follows a part is never read as a
 // piece of it; the records inside it are read where they stand, by a record reader that goes on from one to the next.
+#![tactic(auto)]
+
 ghost use Rattle.std.specs.Prelude.{◌-◌, ◌≤◌, false, ◌≡◌, length};
 ghost use Rattle.buffer.specs.Slice.{part};
 ghost use Rattle.record.specs.Alone.{record_kind, only_simple, only_tuple};
@@ -23,7 +25,7 @@ use record::kind::{LET_ALL, LET_ONE, NUMERAL, PRED, REC, REFERENCE, SUCC, TUPLE}
 use record::refusal::BAD_BUFFER;
 
 // What a term's head leaves to check.
-#[derive(Drop)]
+#[derive(Clone, Copy)]
 pub enum Opened {
     // Nothing: a tuple, or no term.
     Whole(Verdict),

@@ -1,5 +1,7 @@
 // Translation over bytes (01 "Translation and read-back"): the term's length, and the term written into another buffer. Works
 // on a checked program.
+#![tactic(auto)]
+
 ghost use Rattle.std.specs.Prelude.{◌≡◌, ◌+◌, ◌-◌, ◌*◌, ◌≤◌, ◌<◌, ltb, length};
 ghost use Rattle.buffer.specs.Slice.{put};
 ghost use Rattle.rules.specs.Syntax.{Block};
@@ -18,7 +20,7 @@ use record::{Header, Sort};
 
 // A row of commands, from `from` up to `to` in the source, and the place of its translation, from `start` up to `stop` in
 // the output.
-#[derive(Drop)]
+#[derive(Clone, Copy)]
 struct Task {
     from: usize,
     to: usize,
@@ -27,7 +29,7 @@ struct Task {
 }
 
 // The two rows that a let-all is made of: that inside its command, and that behind it.
-#[derive(Drop)]
+#[derive(Clone, Copy)]
 struct Parts {
     inner: Task,
     rest: Task,

@@ -1,5 +1,7 @@
 // The C boundary: one thin function for each call, of the names in include/vistrokk.h. Each hands its slices on to the proved
 // function and its answer back by value. A lent slice is a pointer and a length.
+#![tactic(auto)]
+
 ghost use Rattle.std.specs.Prelude.{◌≡◌};
 ghost use Rattle.record.specs.Answers.{check_program, check_term};
 ghost use Rattle.record.specs.declared.Conversion.TheVariants.{ToFirst, ToSecond};

@@ -1,5 +1,7 @@
 // Weighing: gross and tare in kilograms, and a rule of rounding, give a start store (01 "Result and weighing", 02 C-11
 // and C-15).
+#![tactic(auto)]
+
 ghost use Rattle.std.specs.Prelude.{◌≡◌, ◌≤◌, length};
 ghost use Rattle.weighing.specs.Weigh.{count_of, net_load, tare_larger, weigh_call, weighed};
 

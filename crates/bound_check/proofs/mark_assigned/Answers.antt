@@ -1,0 +1,82 @@
+use native.Mathlib.Omega.{arith}
+use mathlib.Core.Path.{◌≡◌, refl, ◌∙◌, ap, sym}
+use mathlib.Core.Logic.{⊎_elim}
+use mathlib.Core.Bool.{Bool}
+use lib.ListN.{length}
+use Prim.Native.Nat.{ℕ, ◌-◌, ◌≤◌}
+use Rattle.rules.specs.Syntax.{Block}
+use Rattle.forecast.specs.Rows.{RowOf}
+use Rattle.bound_check.proofs.HeadLaws.{pass}
+use Rattle.bound_check.proofs.MarkLaws.{Marking, mark-end, mark-named, mark-nameless, mark-start, set-length}
+use Rattle.bound_check.proofs.mark_assigned.Goals as goal
+
+pub loop-at-init : goal.loop-at-init
+loop-at-init c = (c.requires.1, λ k b f h. mark-start c.args.marks.now h)
+
+pub overflow_add-at : goal.overflow_add-at
+overflow_add-at c =
+    let p = c.requires.0 in
+    let M = c.loop-at.invariant.1 p.0 p.1.1.0 p.1.0 p.1.1.1 in
+    omega (arith, (pass M.row c.loop-at-test.true refl).room)
+
+pub get_u16-kind-requires : goal.get_u16-kind-requires
+get_u16-kind-requires c =
+    let p = c.requires.0 in
+    let M = c.loop-at.invariant.1 p.0 p.1.1.0 p.1.0 p.1.1.1 in
+    omega (arith, (pass M.row c.loop-at-test.true refl).room)
+
+pub overflow_add-at-then-kind-ne-BLOCK : goal.overflow_add-at-then-kind-ne-BLOCK
+overflow_add-at-then-kind-ne-BLOCK c =
+    let p = c.requires.0 in
+    let M = c.loop-at.invariant.1 p.0 p.1.1.0 p.1.0 p.1.1.1 in
+    omega (arith, ((pass M.row c.loop-at-test.true c.get_u16-kind.ensures.0).named (λ e. omega (arith, c.if-kind-ne-BLOCK.true))).0)
+
+pub get_u32-variable-requires : goal.get_u32-variable-requires
+get_u32-variable-requires c =
+    let p = c.requires.0 in
+    let M = c.loop-at.invariant.1 p.0 p.1.1.0 p.1.0 p.1.1.1 in
+    omega (arith, ((pass M.row c.loop-at-test.true c.get_u16-kind.ensures.0).named (λ e. omega (arith, c.if-kind-ne-BLOCK.true))).0)
+
+pub overflow_cast-variable : goal.overflow_cast-variable
+overflow_cast-variable c =
+    let p = c.requires.0 in
+    let M = c.loop-at.invariant.1 p.0 p.1.1.0 p.1.0 p.1.1.1 in
+    omega (arith, ((pass M.row c.loop-at-test.true c.get_u16-kind.ensures.0).named (λ e. omega (arith, c.if-kind-ne-BLOCK.true))).1, c.get_u32-variable.ensures, p.1.0, c.loop-at.invariant.0)
+
+pub bounds-marks-variable : goal.bounds-marks-variable
+bounds-marks-variable c =
+    let p = c.requires.0 in
+    let M = c.loop-at.invariant.1 p.0 p.1.1.0 p.1.0 p.1.1.1 in
+    omega (arith, ((pass M.row c.loop-at-test.true c.get_u16-kind.ensures.0).named (λ e. omega (arith, c.if-kind-ne-BLOCK.true))).1, c.get_u32-variable.ensures, p.1.0, c.loop-at.invariant.0)
+
+pub head_size-at-requires : goal.head_size-at-requires
+head_size-at-requires c = tt
+
+pub overflow_add-at-in-loop-at : goal.overflow_add-at-in-loop-at
+overflow_add-at-in-loop-at c =
+    let p = c.requires.0 in
+    let M = c.loop-at.invariant.1 p.0 p.1.1.0 p.1.0 p.1.1.1 in
+    let P = pass M.row c.loop-at-test.true c.get_u16-kind.ensures.0 in
+    omega (arith, (P.row _ c.head_size-at.ensures).ends, P.forward _ c.head_size-at.ensures, c.loop-at-test.true, c.ranges.to)
+
+pub loop-at-smaller : goal.loop-at-smaller
+loop-at-smaller c =
+    let p = c.requires.0 in
+    let M = c.loop-at.invariant.1 p.0 p.1.1.0 p.1.0 p.1.1.1 in
+    let P = pass M.row c.loop-at-test.true c.get_u16-kind.ensures.0 in
+    omega (arith, (P.row _ c.head_size-at.ensures).ends, P.forward _ c.head_size-at.ensures, c.loop-at-test.true, c.ranges.to)
+
+pub loop-at-preserved : goal.loop-at-preserved
+loop-at-preserved c = (
+  ⊎_elim (λ w. set-length c.loop-at.marks c.if-kind-ne-BLOCK.marks w.1.result c.loop-at.invariant.0 w.2) (λ w. ap (length {A = Bool}) w.1 ∙ c.loop-at.invariant.0) c.if-kind-ne-BLOCK.branch,
+  λ k b f h.
+      let M = c.loop-at.invariant.1 k b f h in
+      let P = pass M.row c.loop-at-test.true c.get_u16-kind.ensures.0 in
+      ⊎_elim (λ w. mark-named M P c.head_size-at.ensures (λ e. omega (arith, w.0.taken)) f c.loop-at.invariant.0 w.1.ensures w.2) (λ w. mark-nameless M P c.head_size-at.ensures (omega (arith, w.0.left)) w.1) c.if-kind-ne-BLOCK.branch,
+)
+
+pub shape_of-marks : goal.shape_of-marks
+shape_of-marks c = c.loop-at.invariant.0 ∙ sym c.requires.1
+
+pub returns : goal.returns
+returns c = λ k b f h y e. mark-end (c.loop-at.invariant.1 k b f h) (omega (arith, c.loop-at-test.false)) y e

@@ -1,0 +1,11 @@
+use borrow.Author.Rules.{rules}
+use Rattle.canonical.proofs.canonical_head.Reads as reads
+use Rattle.canonical.proofs.canonical_head.Lts as lts
+use Rattle.canonical.proofs.RowsLaws.{head-none, head-waits}
+use Rattle.canonical.proofs.canonical_head.Goals as goal
+
+pub returns-then-words-eq0 : goal.returns-then-words-eq0
+returns-then-words-eq0 c = head-none c.args.words.now c.if-words-eq0.true
+
+pub returns : goal.returns
+returns c = head-waits c.args.words.now c.if-words-eq0.false

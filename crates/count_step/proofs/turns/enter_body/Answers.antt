@@ -1,0 +1,6 @@
+use borrow.Author.Rules.{rules}
+use Rattle.count_step.proofs.WordsLaws.{body_is}
+use Rattle.count_step.proofs.turns.enter_body.Goals as goal
+
+pub returns : goal.returns
+returns c = body_is c.args.words.now c.args.n c.args.p

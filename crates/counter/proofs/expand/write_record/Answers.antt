@@ -1,0 +1,50 @@
+use borrow.Author.Rules.{rules}
+use Rattle.counter.proofs.expand.write_record.Reads as reads
+use Rattle.counter.proofs.expand.write_record.Lts as lts
+use Rattle.buffer.proofs.zero.Reads as zero-reads
+use Rattle.edit.proofs.put_head.Reads as put-head-reads
+use Rattle.edit.proofs.put_header.Reads as put-header-reads
+use Rattle.expansion.proofs.write_expansion.Reads as write-expansion-reads
+use Rattle.record.proofs.Header.contents_at.Reads as contents-at-reads
+use mathlib.Core.Path.{ap, ◌∙◌}
+use Prim.Native.Nat.{◌+◌, ℕ}
+use native.Mathlib.Omega.{arith}
+use Rattle.counting.specs.Counting.{expand}
+use Rattle.counter.proofs.ExpandLaws.{given, record-room, record-stores, size_room}
+use Rattle.counter.proofs.expand.write_record.Goals as goal
+
+-- src/expand.rt:52:5
+pub put_header-requires : goal.put_header-requires
+put_header-requires c =
+    omega (arith, record-room c.requires.0.3 c.args.total c.requires.0.4, c.contents_at-contents.ensures, c.requires.1)
+
+-- src/expand.rt:53:36
+pub overflow_sub-total : goal.overflow_sub-total
+overflow_sub-total c =
+    omega (arith, record-room c.requires.0.3 c.args.total c.requires.0.4, c.contents_at-contents.ensures)
+
+-- src/expand.rt:53:5
+pub put_head-requires : goal.put_head-requires
+put_head-requires c =
+    omega (arith, record-room c.requires.0.3 c.args.total c.requires.0.4, c.contents_at-contents.ensures, c.requires.1, c.put_header.auto.buf)
+
+-- src/expand.rt:54:43
+pub overflow_add-contents : goal.overflow_add-contents
+overflow_add-contents c =
+    omega (arith, record-room c.requires.0.3 c.args.total c.requires.0.4, c.contents_at-contents.ensures, c.requires.1, c.requires.2)
+
+-- src/expand.rt:54:62
+pub overflow_add-contents-2 : goal.overflow_add-contents-2
+overflow_add-contents-2 c =
+    omega (arith, record-room c.requires.0.3 c.args.total c.requires.0.4, c.contents_at-contents.ensures, c.requires.1, c.requires.2)
+
+-- src/expand.rt:54:5
+pub write_expansion-requires : goal.write_expansion-requires
+write_expansion-requires c =
+    ((c.requires.0.1, c.requires.0.2, given c.requires.0.3 (c.contents_at-contents.result + 4) (ap (λ (m : ℕ). m + 4) c.contents_at-contents.ensures), omega (arith, size_room c.requires.0.3 c.args.total c.requires.0.4, c.contents_at-contents.ensures, c.requires.1, c.put_header.auto.buf, c.put_head.auto.buf)), c.requires.0.3.low, search rules, omega (arith, c.requires.2, c.put_header.auto.buf, c.put_head.auto.buf))
+
+-- src/expand.rt:40:1
+pub returns : goal.returns
+returns c =
+    λ store P s a e.
+    record-stores c.args.h (expand s) c.args.out.now _ _ _ _ c.args.total c.contents_at-contents.result _ e c.contents_at-contents.ensures c.requires.1 (c.write_expansion.auto.out ∙ c.put_head.auto.buf ∙ c.put_header.auto.buf) c.put_header.ensures c.put_head.ensures (c.write_expansion.ensures P s (given a (c.contents_at-contents.result + 4) (ap (λ (m : ℕ). m + 4) c.contents_at-contents.ensures))) c.zero.ensures

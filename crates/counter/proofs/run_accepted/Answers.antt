@@ -1,0 +1,27 @@
+use borrow.Author.Rules.{rules}
+use Rattle.counter.proofs.run_accepted.Reads as reads
+use Rattle.counter.proofs.run_accepted.Lts as lts
+use Rattle.canonical.proofs.make_canonical.Reads as make-canonical-reads
+use Rattle.canonical.proofs.open_count.Reads as open-count-reads
+use Rattle.count_run.proofs.run_words.Reads as run-words-reads
+use Rattle.record.proofs.Header.contents_at.Reads as contents-at-reads
+use Rattle.record.proofs.Header.largest.Reads as largest-reads
+use mathlib.Core.Path.{ap}
+use Prim.Native.Nat.{◌+◌, ℕ}
+use native.Mathlib.Omega.{arith}
+use Rattle.counter.proofs.RunLaws.{holds, start-low}
+use Rattle.counter.proofs.run_accepted.Goals as goal
+
+-- src/lib.rt:31:17
+pub overflow_add-start : goal.overflow_add-start
+overflow_add-start c = omega (arith, start-low c.requires.2, c.contents_at-start.ensures)
+
+-- src/lib.rt:35:5
+pub run_words-requires : goal.run_words-requires
+run_words-requires c =
+    (c.requires.0, c.requires.1, holds c.requires.2 _ c.make_canonical.ensures (c.contents_at-start.result + 4) (ap (λ (m : ℕ). m + 4) c.contents_at-start.ensures) c.open_count-n.result c.open_count-n.ensures)
+
+-- src/lib.rt:20:1
+pub returns : goal.returns
+returns c =
+    λ P s a. c.run_words.ensures c.args.h P s c.largest-largest.ensures (holds a _ c.make_canonical.ensures (c.contents_at-start.result + 4) (ap (λ (m : ℕ). m + 4) c.contents_at-start.ensures) c.open_count-n.result c.open_count-n.ensures)

@@ -1,0 +1,28 @@
+-- After i turns the first i bytes stand at their place. What is still to be read lies behind all that was written.
+use Prim.Native.Nat.{◌-◌, ◌≤◌}
+use mathlib.Core.Path.{◌≡◌, refl, sym}
+use native.Mathlib.Omega.{arith}
+use borrow.Author.Rules.{rules}
+use lib.ListN.{length, length-set}
+use Rattle.buffer.specs.Slice.{put, part}
+use Rattle.buffer.proofs.SliceLaws.{put-nil, moved-down-next}
+use Rattle.moves.proofs.move_bytes_down.Goals as goal
+
+pub loop-i-init : goal.loop-i-init
+unfolding part
+loop-i-init c = (omega arith, refl, sym (put-nil c.args.buf.now c.args.to))
+
+pub loop-i-preserved : goal.loop-i-preserved
+loop-i-preserved c =
+    let a = c.args in
+    let h = c.loop-i in
+    let turn = moved-down-next a.buf.now h.buf a.to a.from h.i (omega arith) (omega arith) h.invariant.2 in
+    (omega arith, simp length-set h.invariant.1, turn)
+
+pub shape_of-buf : goal.shape_of-buf
+shape_of-buf c = c.loop-i.invariant.1
+
+pub returns : goal.returns
+returns c =
+    let e : c.loop-i.i ≡ c.args.count = omega arith in
+    rw e at c.loop-i.invariant.2

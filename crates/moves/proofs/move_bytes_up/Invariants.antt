@@ -1,0 +1,17 @@
+-- The bytes from index left on stand at their place. What is still to be read lies before all that was written.
+use Prim.Native.Nat.{◌+◌, ◌-◌, ◌≤◌}
+use mathlib.Core.Path.{◌≡◌, refl, sym}
+use native.Mathlib.Omega.{arith}
+use native.Mathlib.Nat.{add-zero, sub-zero}
+use borrow.Author.Rules.{rules}
+use lib.ListN.{length, length-set}
+use Rattle.buffer.specs.Slice.{put, part}
+use Rattle.buffer.proofs.SliceLaws.{put-nil, moved-up-next}
+use Rattle.moves.proofs.move_bytes_up.Given as goal
+
+abbrev pub invariant-loop-left : goal.invariant-loop-left
+invariant-loop-left l =
+    (l.left ≤ l.count) × (length l.buf ≡ length l.initial.buf) × (l.buf ≡ put l.initial.buf (l.to + l.left) (part l.initial.buf (l.from + l.left) (l.count - l.left)))
+
+abbrev pub decreases-loop-left : goal.decreases-loop-left
+decreases-loop-left l = l.left

@@ -1,0 +1,22 @@
+use Rattle.nesting_check.proofs.too_deep.Reads as reads
+use Rattle.nesting_check.proofs.too_deep.Lts as lts
+use Rattle.nesting_check.proofs.turn.Reads as turn-reads
+use native.Mathlib.Omega.{arith}
+use mathlib.Core.Path.{◌≡◌, refl, sym, ◌∙◌}
+use lib.Dec.{ltb}
+use lib.ListN.{length}
+use Prim.Native.Nat.{ℕ, ◌+◌, ◌-◌, ◌*◌}
+use Rattle.rules.specs.Syntax.{Block}
+use Rattle.record.specs.Program.{block_size}
+use Rattle.place.specs.ProgramView.{BlockAt}
+use Rattle.counting.specs.Depth.{nesting}
+use Rattle.nesting_check.specs.Rows.{Scanned}
+use Rattle.nesting_check.proofs.RowsLaws.{scan-start, standing-end, standing-low}
+use Rattle.nesting_check.proofs.too_deep.Given as goal
+
+abbrev pub invariant-loop-q : goal.invariant-loop-q
+invariant-loop-q l =
+    (length {A = ℕ} l.ends ≡ 32) × ((P : Block) → BlockAt l.buf l.start P → l.used ≡ l.start + block_size P → Scanned l.buf l.used (ltb 32 (nesting P)) l.ends l.depth l.q)
+
+abbrev pub decreases-loop-q : goal.decreases-loop-q
+decreases-loop-q l = l.depth + 2 * (l.used - l.q)

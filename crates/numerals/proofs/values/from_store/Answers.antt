@@ -1,0 +1,22 @@
+-- After i turns the array stands for the first i values of the store.
+use Prim.Native.Nat.{◌-◌, ◌≤◌}
+use mathlib.Core.Path.{◌≡◌}
+use native.Mathlib.Omega.{arith}
+use lib.ListN.{length, length-set, take}
+use Rattle.rules.specs.Substitution.{from_store}
+use Rattle.numerals.specs.Values.{substitution_of}
+use Rattle.numerals.proofs.ValuesLaws.{blank, built-all, built-next, built-none, length-blank}
+use borrow.Author.Rules.{rules}
+use Rattle.numerals.proofs.values.from_store.Goals as goal
+
+pub loop-i-init : goal.loop-i-init
+unfolding blank
+loop-i-init c = (omega arith, length-blank, built-none c.args.store.now)
+
+pub loop-i-preserved : goal.loop-i-preserved
+loop-i-preserved c =
+    (omega arith, simp length-set c.loop-i.invariant.1, built-next c.args.store.now c.loop-i.values c.loop-i.i _ c.loop-i.invariant.1 c.loop-i-test.true c.requires c.wide64.ensures.0 c.wide64.ensures.1 c.loop-i.invariant.2)
+
+pub returns : goal.returns
+returns c =
+    (c.loop-i.invariant.1, built-all c.args.store.now c.loop-i.values c.loop-i.i c.loop-i-test.false c.loop-i.invariant.2)

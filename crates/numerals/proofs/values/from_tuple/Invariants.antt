@@ -1,0 +1,22 @@
+-- After i turns the array stands for the first i numerals.
+use borrow.Author.Rules.{rules}
+use Prim.Native.Nat.{ℕ, ◌-◌, ◌<◌, ◌≤◌}
+use mathlib.Core.List.{List, map}
+use mathlib.Core.Path.{◌≡◌, ◌∙◌}
+use native.Mathlib.Omega.{arith}
+use lib.ListN.{length, length-set, take}
+use Rattle.rules.specs.Substitution.{from_store}
+use Rattle.rules.specs.Syntax.{num, tuple}
+use Rattle.place.specs.TermView.{TermAt}
+use Rattle.place.proofs.NumeralsLaws.{numerals-row}
+use Rattle.place.proofs.TermViewLaws.{term-room}
+use Rattle.numerals.specs.Values.{substitution_of}
+use Rattle.numerals.proofs.ValuesLaws.{blank, built-all, built-next, built-none, length-blank}
+use Rattle.numerals.proofs.values.from_tuple.Given as goal
+
+abbrev pub invariant-loop-i : goal.invariant-loop-i
+invariant-loop-i l =
+    (l.i ≤ l.k) × (length l.values ≡ 17) × ((vs : List ℕ) → TermAt l.buf l.at l.k (tuple (map num vs)) → substitution_of l.values ≡ from_store (take l.i vs))
+
+abbrev pub decreases-loop-i : goal.decreases-loop-i
+decreases-loop-i l = l.k - l.i

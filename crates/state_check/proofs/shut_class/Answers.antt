@@ -1,0 +1,13 @@
+use borrow.Author.Rules.{rules}
+use Rattle.state_check.proofs.shut_class.Reads as reads
+use Rattle.state_check.proofs.shut_class.Lts as lts
+use Rattle.state_check.proofs.only_if.Reads as only-if-reads
+use Rattle.state_check.proofs.ClassLaws.{shut-last, shut-not}
+use Rattle.state_check.proofs.shut_class.Goals as goal
+
+pub returns-then-last : goal.returns-then-last
+returns-then-last c =
+    shut-last c.args.last c.args.waits c.only_if.result c.if-last.true c.only_if.ensures
+
+pub returns-else-last : goal.returns-else-last
+returns-else-last c = shut-not c.args.last c.args.waits c.if-last.false

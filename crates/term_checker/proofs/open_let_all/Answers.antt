@@ -1,0 +1,7 @@
+use borrow.Author.Rules.{rules}
+use Rattle.term_checker.proofs.TermOpensLaws.{let_all-opens}
+use Rattle.term_checker.proofs.open_let_all.Goals as goal
+
+pub returns : goal.returns
+returns c =
+    let_all-opens c.args.k c.args.largest c.args.s.now c.requires c.after.ensures

@@ -1,0 +1,6 @@
+-- The call answers for it.
+use borrow.Author.Rules.{rules}
+use Rattle.vistrokk.proofs.vistrokk_check_program.Goals as goal
+
+pub returns : goal.returns
+returns c = c.check_program.ensures

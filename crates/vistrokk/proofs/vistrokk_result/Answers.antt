@@ -1,0 +1,6 @@
+-- The call answers for it.
+use borrow.Author.Rules.{rules}
+use Rattle.vistrokk.proofs.vistrokk_result.Goals as goal
+
+pub returns : goal.returns
+returns c = (c.result.ensures.0, c.result.ensures.1)
