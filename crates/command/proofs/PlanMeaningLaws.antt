@@ -54,6 +54,10 @@ module _ (ok : ℕ → Bool) (s : List ℕ) (levels p : ℕ) where
   tells-spot (assign x e r) spot_assign = tells-assign x e r
   tells-spot (loop x n c r) spot_loop = tells-loop x n c r (bound_value s n) refl
   tells-spot (nest empty r) spot_empty = (at r s, step-nest-empty ok r s, omega (arith, block_size-nest empty r, block_size-empty))
+  tells-spot empty x' = elim x' [ ]
+  tells-spot (nest (assign _ _ _) r) x7 = elim x7 [ ]
+  tells-spot (nest (loop _ _ _ _) r) x9 = elim x9 [ ]
+  tells-spot (nest (nest _ _) r) x8 = elim x8 [ ]
 
 -- OF THE WHOLE PROGRAM
 

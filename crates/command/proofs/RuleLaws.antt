@@ -5,10 +5,10 @@ use mathlib.Core.Bool.{Bool}
 use mathlib.Core.List.{List}
 use lib.ListN.{length}
 use native.Mathlib.Omega.{arith}
-use Rattle.rules.specs.Rules.{Step, at, rule1, rule2, rule3, rule4, rule5, rule6, rule7, rule8, rule9}
+use Rattle.rules.specs.Rules.{Eval, Step, at, rule1, rule2, rule3, rule4, rule5, rule6, rule7, rule8, rule9}
 use Rattle.rules.specs.Step.{step, step_block}
 use Rattle.rules.specs.Store.{lookup}
-use Rattle.rules.specs.Syntax.{Block, Config, assign, empty, loop, nest, next}
+use Rattle.rules.specs.Syntax.{Block, Config, Expr, assign, dec, empty, inc, loop, nest, next}
 use Rattle.rules.proofs.RulesLaws.{rules-step}
 use Rattle.record.specs.Program.{block_size}
 use Rattle.place.specs.Path.{path, spot}
@@ -29,12 +29,19 @@ module _ (ok : ℕ → Bool) where
   spot-inside (loop x n b q) r μ d h = refl
   spot-inside (nest b q) r μ d h = refl
 
+  assign-rule : (levels p x : ℕ) (s : Block) (μ : List ℕ) (e : Expr) (n : ℕ) (h : Eval ok μ e n)
+      → (plan_spot ok levels p (assign x e s) μ).rule ≡ rule_of (rule5 {x = x} {n = n} {e = e} {s = s} {μ = μ} h)
+  unfolding plan_spot plan_assign plan_raise rule_of
+  assign-rule levels p x s μ (inc y) n (rule1 v) = ap (λ (t : Bool). (plan_raise levels p x (suc (lookup μ y)) 0 t).rule) v
+  assign-rule levels p x s μ (dec y) n rule2 = refl
+  assign-rule levels p x s μ (Rattle.rules.specs.Syntax.lit _) n h = elim h [ ]
+  assign-rule levels p x s μ (Rattle.rules.specs.Syntax.var _) n h = elim h [ ]
+
   spot-rule : (levels p : ℕ) {c d : Config} (h : Step ok c d) → (plan_spot ok levels p (spot c.block) c.store).rule ≡ rule_of h
   unfolding plan_spot plan_assign plan_raise plan_turn spot rule_of
   spot-rule levels p rule3 = refl
   spot-rule levels p rule4 = refl
-  spot-rule levels p (rule5 {x} {n} {e} {s} {μ} (rule1 {x = y} v)) = ap (λ (t : Bool). (plan_raise levels p x (suc (lookup μ y)) 0 t).rule) v
-  spot-rule levels p (rule5 rule2) = refl
+  spot-rule levels p (rule5 {x} {n} {e} {s} {μ} h) = assign-rule levels p x s μ e n h
   spot-rule levels p rule6 = refl
   spot-rule levels p (rule7 {c} {c₁} {s} {μ} {μ₁} h) =
       ap (λ (b : Block). (plan_spot ok levels p b μ).rule) (spot-inside c s μ (at c₁ μ₁) h) ∙ spot-rule levels p h

@@ -56,6 +56,10 @@ module _ (ok : ℕ → Bool) (levels p : ℕ) where
   tells-redex (let_all (tuple l) u) redex_let_all =
       (substitute (from_store (map value_of l)) u, reduce-let_all-tuple ok l u, omega (arith, term_size-let_all (tuple l) u, term_size-tuple l, term_size-substitute (from_store (map value_of l)) u))
   tells-redex (rec x a l t) redex_rec = tells-rec x a l t (value_of a) refl
+  tells-redex (tuple _) x'' = elim x'' [ ]
+  tells-redex (let_all (let_one _ _ _) u) x7 = elim x7 [ ]
+  tells-redex (let_all (let_all _ _) u) x7 = elim x7 [ ]
+  tells-redex (let_all (rec _ _ _ _) u) x10 = elim x10 [ ]
 
 -- OF THE WHOLE TERM
 

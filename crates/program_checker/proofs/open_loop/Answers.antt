@@ -17,7 +17,7 @@ use Rattle.program_checker.proofs.open_loop.Goals as goal
 
 pub returns-then-s-lt20 : goal.returns-then-s-lt20
 returns-then-s-lt20 c =
-    opens-none c.args.k c.args.largest c.args.s.now c.no_command.ensures c.requires.0.least (decode-loop-no c.args.s.now c.requires.0 c.requires.1 (λ x y. omega arith))
+    opens-none c.args.k c.args.largest c.args.s.now c.no_command.ensures c.requires.front.least (decode-loop-no c.args.s.now c.requires.front c.requires.s_value (λ x y. omega arith))
 
 pub returns-then-only_at : goal.returns-then-only_at
 returns-then-only_at c =
@@ -28,7 +28,7 @@ returns-then-only_at c =
     record {
       least = omega arith;
       most = omega arith;
-      both = ap (block_verdict k largest) (decode-loop s c.requires.0 c.requires.1 (omega arith) is_Block)
+      both = ap (block_verdict k largest) (decode-loop s c.requires.front c.requires.s_value (omega arith) is_Block)
           ∙ loop-verdict k largest (u32 s 4) (only (read_bound (take 8 (drop 8 s)))) (decode_block (drop 20 s))
           ∙ sym (ap (λ (v : Verdict). worse v (block_verdict k largest (decode_block (drop 20 s)))) (c.worst.ensures ∙ ap₂ worse (c.check_variable-index.ensures ∙ ap (λ (x : ℕ). rated (in_range k x)) c.get_u32.ensures) c.check_bound.ensures));
     }
@@ -37,4 +37,4 @@ pub returns-else-only_at : goal.returns-else-only_at
 returns-else-only_at c =
     let s = c.args.s.now in
     let not-only = sym c.only_at.ensures ∙ c.if-only_at.false in
-    opens-none c.args.k c.args.largest s c.no_command-else-only_at.ensures c.requires.0.least (decode-loop-no s c.requires.0 c.requires.1 (λ x y. true-false (sym y ∙ not-only)))
+    opens-none c.args.k c.args.largest s c.no_command-else-only_at.ensures c.requires.front.least (decode-loop-no s c.requires.front c.requires.s_value (λ x y. true-false (sym y ∙ not-only)))

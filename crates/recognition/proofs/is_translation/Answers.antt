@@ -23,7 +23,7 @@ is_legal-requires c =
 
 pub returns-then-not-is_legal : goal.returns-then-not-is_legal
 returns-then-not-is_legal c =
-    λ t h. recognise-no (c.loop-at.invariant t h) c.loop-at-test.true (λ u g. sym (not-true c.is_legal.result c.if-not-is_legal.true) ∙ c.is_legal.ensures u g)
+    λ t h. recognise-no (c.loop-at.invariant t h) c.loop-at-test.true (λ u g. sym c.if-not-is_legal.true ∙ c.is_legal.ensures u g)
 
 pub overflow_add-at : goal.overflow_add-at
 overflow_add-at c =
@@ -54,7 +54,7 @@ pub loop-at-preserved : goal.loop-at-preserved
 loop-at-preserved c =
     λ t h.
     recognise-next (c.loop-at.invariant t h) c.loop-at-test.true (eqb c.get_u16-first.result 38) c.own_size-at.result
-    (λ u g. sym (not-false c.is_legal.result c.if-not-is_legal.false) ∙ c.is_legal.ensures u g)
+    (λ u g. sym c.if-not-is_legal.false ∙ c.is_legal.ensures u g)
     (λ u g. ap (λ (n : ℕ). eqb n 38) c.get_u16-first.ensures.0 ∙ is_let_all-kind g)
     c.own_size-at.ensures
 

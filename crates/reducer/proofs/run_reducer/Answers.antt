@@ -1,4 +1,6 @@
 -- One law for each way out: rows 1 to 5 and 15 by the checker, row 7, and the run.
+use mathlib.Core.Bool.{not}
+use mathlib.Core.Path.{ap}
 use borrow.Author.Rules.{rules}
 use mathlib.Core.Path.{sym}
 use native.Mathlib.Omega.{arith}
@@ -24,15 +26,15 @@ is_closed-requires c =
 pub returns-then-not-is_closed : goal.returns-then-not-is_closed
 returns-then-not-is_closed c =
     refuses-open c.args.buf.now c.args.used c.args.budget c.check_term-checked.result.number c.check_term-checked.result.k (sym c.check_term-checked.ensures) c.if-number-ne0.false
-    (bytes_of c.args.buf.now (λ i _. omega (arith, c.slice_known-1.given i))) c.read_header-h.result c.read_header-h.ensures c.is_closed.result c.is_closed.ensures c.if-not-is_closed.true c.refuse-then-not-is_closed.result c.refuse-then-not-is_closed.ensures
+    (bytes_of c.args.buf.now (λ i _. omega (arith, c.slice_known-1.given i))) c.read_header-h.result c.read_header-h.ensures c.is_closed.result c.is_closed.ensures (ap not c.if-not-is_closed.true) c.refuse-then-not-is_closed.result c.refuse-then-not-is_closed.ensures
 
 pub run_accepted-requires : goal.run_accepted-requires
 run_accepted-requires c =
     accepts c.args.buf.now c.args.used c.args.budget c.check_term-checked.result.number c.check_term-checked.result.k (sym c.check_term-checked.ensures) c.if-number-ne0.false
-    (bytes_of c.args.buf.now (λ i _. omega (arith, c.slice_known-1.given i))) c.read_header-h.result c.read_header-h.ensures c.is_closed.result c.is_closed.ensures c.if-not-is_closed.false
+    (bytes_of c.args.buf.now (λ i _. omega (arith, c.slice_known-1.given i))) c.read_header-h.result c.read_header-h.ensures c.is_closed.result c.is_closed.ensures (ap not c.if-not-is_closed.false)
 
 pub returns : goal.returns
 returns c =
     let a = accepts c.args.buf.now c.args.used c.args.budget c.check_term-checked.result.number c.check_term-checked.result.k (sym c.check_term-checked.ensures) c.if-number-ne0.false
-    (bytes_of c.args.buf.now (λ i _. omega (arith, c.slice_known-1.given i))) c.read_header-h.result c.read_header-h.ensures c.is_closed.result c.is_closed.ensures c.if-not-is_closed.false in
+    (bytes_of c.args.buf.now (λ i _. omega (arith, c.slice_known-1.given i))) c.read_header-h.result c.read_header-h.ensures c.is_closed.result c.is_closed.ensures (ap not c.if-not-is_closed.false) in
     accepted-gives a.1 c.args.budget c.run_accepted.result _ (c.run_accepted.ensures a.0 a.1)

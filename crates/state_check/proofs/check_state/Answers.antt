@@ -1,3 +1,4 @@
+use mathlib.Core.Bool.{not}
 use Rattle.state_check.proofs.check_state.Reads as reads
 use Rattle.state_check.proofs.check_state.Lts as lts
 use Rattle.buffer.proofs.get_u16.Reads as get-u16-reads
@@ -44,7 +45,7 @@ pub returns-then-not-stands_at : goal.returns-then-not-stands_at
 returns-then-not-stands_at c =
     λ P b u.
     let g = c.loop-j.invariant.2 P b u in
-    reading-no-place g c.stands_at.result (c.stands_at.ensures g.block g.stands g.size) c.if-not-stands_at.true
+    reading-no-place g c.stands_at.result (c.stands_at.ensures g.block g.stands g.size) (ap not c.if-not-stands_at.true)
 
 pub overflow_mul-j : goal.overflow_mul-j
 overflow_mul-j c = omega (arith, c.loop-j.invariant.0, c.loop-j-test.true)
@@ -59,21 +60,21 @@ pub entry_class-class-requires : goal.entry_class-class-requires
 entry_class-class-requires c =
     let q = c.requires.0 in
     let g = c.loop-j.invariant.2 q.0 q.1.0 q.1.1 in
-    let l = reading-left g c.stands_at.result (c.stands_at.ensures g.block g.stands g.size) c.if-not-stands_at.false in
+    let l = reading-left g c.stands_at.result (c.stands_at.ensures g.block g.stands g.size) (ap not c.if-not-stands_at.false) in
     ((l.rest, (l.stands, l.size)), c.requires.1, omega arith, omega (arith, c.loop-j.invariant.0, c.loop-j-test.true, c.requires.3), omega (arith, c.requires.3))
 
 pub returns-then-class-lt-IN_BLOCK : goal.returns-then-class-lt-IN_BLOCK
 returns-then-class-lt-IN_BLOCK c =
     λ P b u.
     let g = c.loop-j.invariant.2 P b u in
-    let l = reading-left g c.stands_at.result (c.stands_at.ensures g.block g.stands g.size) c.if-not-stands_at.false in
+    let l = reading-left g c.stands_at.result (c.stands_at.ensures g.block g.stands g.size) (ap not c.if-not-stands_at.false) in
     reading-class g c.loop-j-test.true l c.entry_class-class.result (c.entry_class-class.ensures l.rest l.stands l.size) c.if-class-lt-IN_BLOCK.true
 
 pub overflow_add-first : goal.overflow_add-first
 overflow_add-first c =
     let q = c.requires.0 in
     let g = c.loop-j.invariant.2 q.0 q.1.0 q.1.1 in
-    let l = reading-left g c.stands_at.result (c.stands_at.ensures g.block g.stands g.size) c.if-not-stands_at.false in
+    let l = reading-left g c.stands_at.result (c.stands_at.ensures g.block g.stands g.size) (ap not c.if-not-stands_at.false) in
     let k = c.entry_class-class.ensures l.rest l.stands l.size in
     let m = reading-room g c.loop-j-test.true l c.entry_class-class.result k c.if-class-lt-IN_BLOCK.false in
     omega (arith, m, c.requires.1, c.head_size.ensures, head-low (eqb c.entry_class-class.result 2))
@@ -82,7 +83,7 @@ pub overflow_add-start : goal.overflow_add-start
 overflow_add-start c =
     let q = c.requires.0 in
     let g = c.loop-j.invariant.2 q.0 q.1.0 q.1.1 in
-    let l = reading-left g c.stands_at.result (c.stands_at.ensures g.block g.stands g.size) c.if-not-stands_at.false in
+    let l = reading-left g c.stands_at.result (c.stands_at.ensures g.block g.stands g.size) (ap not c.if-not-stands_at.false) in
     let k = c.entry_class-class.ensures l.rest l.stands l.size in
     let m = reading-room g c.loop-j-test.true l c.entry_class-class.result k c.if-class-lt-IN_BLOCK.false in
     omega (arith, m, c.requires.1)
@@ -91,7 +92,7 @@ pub get_u16-requires : goal.get_u16-requires
 get_u16-requires c =
     let q = c.requires.0 in
     let g = c.loop-j.invariant.2 q.0 q.1.0 q.1.1 in
-    let l = reading-left g c.stands_at.result (c.stands_at.ensures g.block g.stands g.size) c.if-not-stands_at.false in
+    let l = reading-left g c.stands_at.result (c.stands_at.ensures g.block g.stands g.size) (ap not c.if-not-stands_at.false) in
     let k = c.entry_class-class.ensures l.rest l.stands l.size in
     let m = reading-room g c.loop-j-test.true l c.entry_class-class.result k c.if-class-lt-IN_BLOCK.false in
     omega (arith, m, c.requires.1)
@@ -100,7 +101,7 @@ pub overflow_add-end : goal.overflow_add-end
 overflow_add-end c =
     let q = c.requires.0 in
     let g = c.loop-j.invariant.2 q.0 q.1.0 q.1.1 in
-    let l = reading-left g c.stands_at.result (c.stands_at.ensures g.block g.stands g.size) c.if-not-stands_at.false in
+    let l = reading-left g c.stands_at.result (c.stands_at.ensures g.block g.stands g.size) (ap not c.if-not-stands_at.false) in
     let k = c.entry_class-class.ensures l.rest l.stands l.size in
     let m = reading-room g c.loop-j-test.true l c.entry_class-class.result k c.if-class-lt-IN_BLOCK.false in
     omega (arith, m, c.requires.1, c.get_u16.ensures.1)
@@ -125,7 +126,7 @@ pub overflow_sub-p : goal.overflow_sub-p
 overflow_sub-p c =
     let q = c.requires.0 in
     let g = c.loop-j.invariant.2 q.0 q.1.0 q.1.1 in
-    let l = reading-left g c.stands_at.result (c.stands_at.ensures g.block g.stands g.size) c.if-not-stands_at.false in
+    let l = reading-left g c.stands_at.result (c.stands_at.ensures g.block g.stands g.size) (ap not c.if-not-stands_at.false) in
     let k = c.entry_class-class.ensures l.rest l.stands l.size in
     omega (arith, reading-progress g c.loop-j-test.true l c.entry_class-class.result k c.if-class-lt-IN_BLOCK.false, c.mark_size.ensures, c.word.ensures.0)
 
@@ -143,7 +144,7 @@ loop-j-preserved c = (
   omega (arith, c.loop-j-test.true),
   (λ P b u.
       let g = c.loop-j.invariant.2 P b u in
-      let l = reading-left g c.stands_at.result (c.stands_at.ensures g.block g.stands g.size) c.if-not-stands_at.false in
+      let l = reading-left g c.stands_at.result (c.stands_at.ensures g.block g.stands g.size) (ap not c.if-not-stands_at.false) in
       reading-next g c.loop-j-test.true l c.entry_class-class.result (c.entry_class-class.ensures l.rest l.stands l.size) c.if-class-lt-IN_BLOCK.false _ _ _
       (ap (λ (z : ℕ). c.loop-j.p + z) c.head_size.ensures) (ap (λ (z : ℕ). c.loop-j.p + z) c.get_u16.ensures.0) (ap₂ (λ (y z : ℕ). y - z) c.word.ensures.0 c.mark_size.ensures)),
 )
@@ -158,18 +159,18 @@ pub returns-then-not-stands_at-2 : goal.returns-then-not-stands_at-2
 returns-then-not-stands_at-2 c =
     λ P b u.
     let g = c.loop-j.invariant.2 P b u in
-    reading-no-place g c.stands_at-2.result (c.stands_at-2.ensures g.block g.stands g.size) c.if-not-stands_at-2.true
+    reading-no-place g c.stands_at-2.result (c.stands_at-2.ensures g.block g.stands g.size) (ap not c.if-not-stands_at-2.true)
 
 pub last_right-requires : goal.last_right-requires
 last_right-requires c =
     let q = c.requires.0 in
     let g = c.loop-j.invariant.2 q.0 q.1.0 q.1.1 in
-    let l = reading-left g c.stands_at-2.result (c.stands_at-2.ensures g.block g.stands g.size) c.if-not-stands_at-2.false in
+    let l = reading-left g c.stands_at-2.result (c.stands_at-2.ensures g.block g.stands g.size) (ap not c.if-not-stands_at-2.false) in
     ((l.rest, (l.stands, l.size)), c.requires.1, omega (arith, c.requires.3))
 
 pub returns : goal.returns
 returns c =
     λ P b u.
     let g = c.loop-j.invariant.2 P b u in
-    let l = reading-left g c.stands_at-2.result (c.stands_at-2.ensures g.block g.stands g.size) c.if-not-stands_at-2.false in
+    let l = reading-left g c.stands_at-2.result (c.stands_at-2.ensures g.block g.stands g.size) (ap not c.if-not-stands_at-2.false) in
     reading-last g (omega (arith, c.loop-j-test.false)) l c.last_right.result (c.last_right.ensures l.rest l.stands l.size)

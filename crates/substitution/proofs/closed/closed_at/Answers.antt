@@ -66,7 +66,7 @@ returns-then-not-closed_atom c =
     λ t h.
     let s = c.loop-bound.invariant.1 t h in
     let v = ranged-let_one s.here (sym c.get_u16.ensures.0 ∙ c.in-37.is) in
-    let_one-found s v _ c.bound_atom-atom.ensures _ c.closed_atom.ensures (not-true _ c.if-not-closed_atom.true)
+    let_one-found s v _ c.bound_atom-atom.ensures _ c.closed_atom.ensures c.if-not-closed_atom.true
 
 pub bounds-bound-x : goal.bounds-bound-x
 bounds-bound-x c =
@@ -89,7 +89,7 @@ loop-bound-preserved-in-37 c = (
   λ t h.
       let s = c.loop-bound.invariant.1 t h in
       let v = ranged-let_one s.here (sym c.get_u16.ensures.0 ∙ c.in-37.is) in
-      let_one-next s v _ c.bound_atom-atom.ensures _ c.closed_atom.ensures c.loop-bound.invariant.0 _ c.get_u32-x.ensures (not-false _ c.if-not-closed_atom.false),
+      let_one-next s v _ c.bound_atom-atom.ensures _ c.closed_atom.ensures c.loop-bound.invariant.0 _ c.get_u32-x.ensures c.if-not-closed_atom.false,
 )
 
 pub overflow_add-p-in-38 : goal.overflow_add-p-in-38
@@ -120,7 +120,7 @@ returns-then-not-closed_atom-2 c =
     λ t h.
     let s = c.loop-bound.invariant.1 t h in
     let v = else-rec s.here _ c.get_u16.ensures.0 c.in_default.in_default-own.rest.0.0.1 c.in_default.in_default-own.rest.0.1 c.in_default.in_default-own.rest.1 in
-    rec-found s v _ (c.closed_atom-in_default.ensures v.view.count v.count) (not-true _ c.if-not-closed_atom-2.true)
+    rec-found s v _ (c.closed_atom-in_default.ensures v.view.count v.count) c.if-not-closed_atom-2.true
 
 pub overflow_add-p-in_default-2 : goal.overflow_add-p-in_default-2
 overflow_add-p-in_default-2 c =
@@ -140,5 +140,5 @@ loop-bound-preserved c = (
   λ t h.
       let s = c.loop-bound.invariant.1 t h in
       let v = else-rec s.here _ c.get_u16.ensures.0 c.in_default.in_default-own.rest.0.0.1 c.in_default.in_default-own.rest.0.1 c.in_default.in_default-own.rest.1 in
-      rec-next s v _ (c.closed_atom-in_default.ensures v.view.count v.count) (not-false _ c.if-not-closed_atom-2.false),
+      rec-next s v _ (c.closed_atom-in_default.ensures v.view.count v.count) c.if-not-closed_atom-2.false,
 )

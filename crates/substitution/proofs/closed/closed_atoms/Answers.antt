@@ -32,14 +32,14 @@ pub returns-then-not-closed_atom : goal.returns-then-not-closed_atom
 returns-then-not-closed_atom c =
     λ ys h.
     let f = row_first (marked c.args.bound.now) (c.loop-i.invariant.1 ys h) (omega arith) in
-    f.found (sym (c.closed_atom.ensures f.atom f.here) ∙ not-true _ c.if-not-closed_atom.true)
+    f.found (sym (c.closed_atom.ensures f.atom f.here) ∙ c.if-not-closed_atom.true)
 
 pub loop-i-preserved : goal.loop-i-preserved
 loop-i-preserved c = (
   omega arith,
   λ ys h.
       let f = row_first (marked c.args.bound.now) (c.loop-i.invariant.1 ys h) (omega arith) in
-      row_moved (f.next (sym (c.closed_atom.ensures f.atom f.here) ∙ not-false _ c.if-not-closed_atom.false)) (omega arith) (omega arith),
+      row_moved (f.next (sym (c.closed_atom.ensures f.atom f.here) ∙ c.if-not-closed_atom.false)) (omega arith) (omega arith),
 )
 
 pub returns : goal.returns

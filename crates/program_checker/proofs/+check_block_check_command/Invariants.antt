@@ -1,0 +1,34 @@
+-- The measure is twice the length, and one more for a block. The loop's invariant: the verdict is the worse of what was found
+-- and the verdict on what is left, from `at` up to `end`.
+use Prim.Native.Nat.{ℕ, ◌<◌, ◌*◌, ◌+◌, ◌-◌, ◌≤◌}
+use native.Mathlib.Omega.{arith}
+use borrow.Author.Rules.{rules}
+use mathlib.Core.Path.{◌≡◌, ap, refl, sym, ◌∙◌}
+use mathlib.Core.Logic.{⊎_elim}
+use mathlib.Core.List.{List}
+use lib.ListN.{length}
+use lib.Seq.{length-take-le}
+use borrow.Author.Tests.{not-false}
+use Rattle.rules.proofs.Tests.{true-false}
+use Rattle.record.specs.Program.{decode_block}
+use Rattle.record.proofs.BetweenLaws.{between-all, between-rest}
+use Rattle.checker.specs.declared.Verdict.{Verdict}
+use Rattle.checker.specs.Verdict.{worse}
+use Rattle.checker.proofs.VerdictLaws.{worse-good, worse-malformed}
+use Rattle.program_checker.specs.BlockVerdict.{block_verdict}
+use Rattle.program_checker.proofs.CommandRowLaws.{FirstCommand, Turned, first-front, row-end, row_first, row-inner, row-left, row-short, row_verdict, turn_last, turn-rest, turn-whole}
+use Rattle.program_checker.proofs.ProgramVerdictLaws.{opens-all}
+use Rattle.program_checker.proofs.+check_block_check_command.Given as goal
+
+abbrev pub decreases-check_block : goal.decreases-check_block
+decreases-check_block l = 2 * length l.s.now + 1
+
+abbrev pub decreases-check_command : goal.decreases-check_command
+decreases-check_command l = 2 * length l.s.now
+
+abbrev pub invariant-check_block-loop-at : goal.invariant-check_block-loop-at
+invariant-check_block-loop-at l =
+    (l.at ≤ l.end) × (l.end ≤ length l.s) × (block_verdict l.k l.largest (decode_block l.s) ≡ worse l.found (row_verdict l.k l.largest l.s l.at l.end))
+
+abbrev pub decreases-check_block-loop-at : goal.decreases-check_block-loop-at
+decreases-check_block-loop-at l = l.end - l.at

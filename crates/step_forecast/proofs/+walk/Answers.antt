@@ -1,0 +1,98 @@
+use Prim.Native.Nat.{ℕ, ◌<◌, ◌-◌}
+use native.Mathlib.Omega.{arith}
+use lib.ListN.{length}
+use Rattle.rules.specs.Syntax.{Block}
+use Rattle.forecast.specs.Rows.{RowOf}
+use Rattle.step_forecast.proofs.LeftLaws.{Left, factor, halves, halves-done, halves-large, halves-none, in_order, left_end, left-start, own-large}
+use Rattle.step_forecast.proofs.+walk.Goals as goal
+
+pub loop-at-init : goal.loop-at-init
+loop-at-init t c =
+    λ b h. left-start c.args.store.now c.args.a c.args.m h c.requires.1 (omega (arith, c.ranges.a))
+
+pub look-head-requires : goal.look-head-requires
+look-head-requires t c =
+    let L = c.loop-at.invariant c.requires.0.0 c.requires.0.1 in
+    ((L.block, L.row), c.loop-at-test.true)
+
+pub add_times-requires : goal.add_times-requires
+add_times-requires t c =
+    (c.loop-at.invariant c.requires.0.0 c.requires.0.1).runs
+
+pub enum_known-sum : goal.enum_known-sum
+enum_known-sum t c = c.in-Number.in-Number-own.keys1
+
+pub enum_told-1 : goal.enum_told-1
+enum_told-1 t c = c.in-Number.in-Number-own.keys2
+
+pub returns-in_default : goal.returns-in_default
+returns-in_default t c =
+    λ b h.
+    let L = c.loop-at.invariant b h in
+    own-large L (c.look-head.ensures.0 L.block L.row) c.add_times.ensures c.in_default.is
+
+pub overflow_mul-inside : goal.overflow_mul-inside
+overflow_mul-inside t c =
+    let L = c.loop-at.invariant c.requires.0.0 c.requires.0.1 in
+    omega (arith, factor L (c.look-head.ensures.0 L.block L.row) c.add_times.ensures c.in-Number.is)
+
+pub run_from-start-requires : goal.run_from-start-requires
+run_from-start-requires t c = tt
+
+pub overflow_sub-end : goal.overflow_sub-end
+overflow_sub-end t c =
+    let L = c.loop-at.invariant c.requires.0.0 c.requires.0.1 in
+    omega (arith, in_order L (c.look-head.ensures.0 L.block L.row) c.run_from-start.ensures)
+
+pub overflow_sub-next : goal.overflow_sub-next
+overflow_sub-next t c =
+    let L = c.loop-at.invariant c.requires.0.0 c.requires.0.1 in
+    omega (arith, in_order L (c.look-head.ensures.0 L.block L.row) c.run_from-start.ensures)
+
+pub walk-requires : goal.walk-requires
+walk-requires t c =
+    let L = c.loop-at.invariant c.requires.0.0 c.requires.0.1 in
+    let H = halves L (c.look-head.ensures.0 L.block L.row) c.add_times.ensures c.in-Number.is c.run_from-start.ensures c.if-end-next.branch (λ w. w.taken) in
+    (omega (arith, H.shorter, c.decreases), ((H.called, H.call-row c.if-start-stop.true), H.often c.if-start-stop.true))
+
+pub enum_known-more : goal.enum_known-more
+enum_known-more t c = c.in-Number-walk.in-Number-walk-own.keys1
+
+pub enum_told-in_default-walk : goal.enum_told-in_default-walk
+enum_told-in_default-walk t c = c.in-Number-walk.in-Number-walk-own.keys2
+
+pub returns-in_default-walk : goal.returns-in_default-walk
+returns-in_default-walk t c =
+    λ b h.
+    let L = c.loop-at.invariant b h in
+    let H = halves L (c.look-head.ensures.0 L.block L.row) c.add_times.ensures c.in-Number.is c.run_from-start.ensures c.if-end-next.branch (λ w. w.taken) in
+    halves-large H (c.walk.ensures H.called (H.call-row c.if-start-stop.true)) c.in_default-walk.is
+
+pub loop-at-smaller-then-start-stop : goal.loop-at-smaller-then-start-stop
+loop-at-smaller-then-start-stop t c =
+    let L = c.loop-at.invariant c.requires.0.0 c.requires.0.1 in
+    let H = halves L (c.look-head.ensures.0 L.block L.row) c.add_times.ensures c.in-Number.is c.run_from-start.ensures c.if-end-next.branch (λ w. w.taken) in
+    omega (arith, H.less, c.loop-at-test.true)
+
+pub loop-at-preserved-then-start-stop : goal.loop-at-preserved-then-start-stop
+loop-at-preserved-then-start-stop t c =
+    λ b h.
+    let L = c.loop-at.invariant b h in
+    let H = halves L (c.look-head.ensures.0 L.block L.row) c.add_times.ensures c.in-Number.is c.run_from-start.ensures c.if-end-next.branch (λ w. w.taken) in
+    halves-done H (c.walk.ensures H.called (H.call-row c.if-start-stop.true)) c.in-Number-walk.is
+
+pub loop-at-smaller : goal.loop-at-smaller
+loop-at-smaller t c =
+    let L = c.loop-at.invariant c.requires.0.0 c.requires.0.1 in
+    let H = halves L (c.look-head.ensures.0 L.block L.row) c.add_times.ensures c.in-Number.is c.run_from-start.ensures c.if-end-next.branch (λ w. w.taken) in
+    omega (arith, H.less, c.loop-at-test.true)
+
+pub loop-at-preserved : goal.loop-at-preserved
+loop-at-preserved t c =
+    λ b h.
+    let L = c.loop-at.invariant b h in
+    let H = halves L (c.look-head.ensures.0 L.block L.row) c.add_times.ensures c.in-Number.is c.run_from-start.ensures c.if-end-next.branch (λ w. w.taken) in
+    halves-none H (omega (arith, c.if-start-stop.false))
+
+pub returns : goal.returns
+returns t c = λ b h. left_end (c.loop-at.invariant b h) (omega (arith, c.loop-at-test.false))
