@@ -54,6 +54,10 @@ module _ (ok : ℕ → Bool) (s : List ℕ) (levels p : ℕ) where
   planned-spot (assign x e r) spot_assign = planned-assign x e r
   planned-spot (loop x n b r) spot_loop = planned-loop x n b r (bound_value s n) refl
   planned-spot (nest empty r) spot_empty = planned_leave rule6
+  planned-spot empty x' = elim x' [ ]
+  planned-spot (nest (assign _ _ _) r) x7 = elim x7 [ ]
+  planned-spot (nest (loop _ _ _ _) r) x9 = elim x9 [ ]
+  planned-spot (nest (nest _ _) r) x8 = elim x8 [ ]
 
   planned-empty : Planned ok s levels p (spot empty) (plan_spot ok levels p (spot empty) s)
   unfolding plan_spot spot

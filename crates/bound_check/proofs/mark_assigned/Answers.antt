@@ -8,6 +8,7 @@ use Rattle.rules.specs.Syntax.{Block}
 use Rattle.forecast.specs.Rows.{RowOf}
 use Rattle.bound_check.proofs.HeadLaws.{pass}
 use Rattle.bound_check.proofs.MarkLaws.{Marking, mark-end, mark-named, mark-nameless, mark-start, set-length}
+use Rattle.bound_check.proofs.mark_assigned.Goals.{then-kind-ne-BLOCK, else-kind-ne-BLOCK}
 use Rattle.bound_check.proofs.mark_assigned.Goals as goal
 
 pub loop-at-init : goal.loop-at-init
@@ -68,11 +69,13 @@ loop-at-smaller c =
 
 pub loop-at-preserved : goal.loop-at-preserved
 loop-at-preserved c = (
-  ⊎_elim (λ w. set-length c.loop-at.marks c.if-kind-ne-BLOCK.marks w.1.result c.loop-at.invariant.0 w.2) (λ w. ap (length {A = Bool}) w.1 ∙ c.loop-at.invariant.0) c.if-kind-ne-BLOCK.branch,
+  c.if-kind-ne-BLOCK.auto.marks ∙ c.loop-at.invariant.0,
   λ k b f h.
       let M = c.loop-at.invariant.1 k b f h in
       let P = pass M.row c.loop-at-test.true c.get_u16-kind.ensures.0 in
-      ⊎_elim (λ w. mark-named M P c.head_size-at.ensures (λ e. omega (arith, w.0.taken)) f c.loop-at.invariant.0 w.1.ensures w.2) (λ w. mark-nameless M P c.head_size-at.ensures (omega (arith, w.0.left)) w.1) c.if-kind-ne-BLOCK.branch,
+      elim c.if-kind-ne-BLOCK.branch [
+        then-kind-ne-BLOCK w ↦ mark-named M P c.head_size-at.ensures (λ e. omega (arith, w.if-kind-ne-BLOCK.true)) f c.loop-at.invariant.0 w.get_u32-variable.ensures w.marks-is
+        | else-kind-ne-BLOCK w ↦ mark-nameless M P c.head_size-at.ensures (omega (arith, w.if-kind-ne-BLOCK.false)) w.marks-is ],
 )
 
 pub shape_of-marks : goal.shape_of-marks

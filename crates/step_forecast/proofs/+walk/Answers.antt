@@ -4,6 +4,8 @@ use lib.ListN.{length}
 use Rattle.rules.specs.Syntax.{Block}
 use Rattle.forecast.specs.Rows.{RowOf}
 use Rattle.step_forecast.proofs.LeftLaws.{Left, factor, halves, halves-done, halves-large, halves-none, in_order, left_end, left-start, own-large}
+use mathlib.Core.Logic.{inl, inr}
+use Rattle.step_forecast.proofs.+walk.Goals.{then-end-next, else-end-next}
 use Rattle.step_forecast.proofs.+walk.Goals as goal
 
 pub loop-at-init : goal.loop-at-init
@@ -18,12 +20,6 @@ look-head-requires t c =
 pub add_times-requires : goal.add_times-requires
 add_times-requires t c =
     (c.loop-at.invariant c.requires.0.0 c.requires.0.1).runs
-
-pub enum_known-sum : goal.enum_known-sum
-enum_known-sum t c = c.in-Number.in-Number-own.keys1
-
-pub enum_told-1 : goal.enum_told-1
-enum_told-1 t c = c.in-Number.in-Number-own.keys2
 
 pub returns-in_default : goal.returns-in_default
 returns-in_default t c =
@@ -52,46 +48,76 @@ overflow_sub-next t c =
 pub walk-requires : goal.walk-requires
 walk-requires t c =
     let L = c.loop-at.invariant c.requires.0.0 c.requires.0.1 in
-    let H = halves L (c.look-head.ensures.0 L.block L.row) c.add_times.ensures c.in-Number.is c.run_from-start.ensures c.if-end-next.branch (λ w. w.taken) in
+    let H = halves L (c.look-head.ensures.0 L.block L.row) c.add_times.ensures c.in-Number.is c.run_from-start.ensures
+        {T = c.loop-at.end - c.look-head.result.next < c.look-head.result.next - c.run_from-start.result} {U = Unit {0}}
+        {start' = c.if-end-next.start} {stop = c.if-end-next.stop} {each = c.if-end-next.each} {at = c.if-end-next.at} {end = c.if-end-next.end} {times' = c.if-end-next.times}
+        (elim c.if-end-next.branch [
+          then-end-next w ↦ inl (w.if-end-next.true, w.at-is, w.end-is, w.times-is, w.start-is, w.stop-is, w.each-is)
+          | else-end-next w ↦ inr (tt, w.at-is, w.end-is, w.times-is, w.start-is, w.stop-is, w.each-is) ])
+        (λ w. w) in
     (omega (arith, H.shorter, c.decreases), ((H.called, H.call-row c.if-start-stop.true), H.often c.if-start-stop.true))
-
-pub enum_known-more : goal.enum_known-more
-enum_known-more t c = c.in-Number-walk.in-Number-walk-own.keys1
-
-pub enum_told-in_default-walk : goal.enum_told-in_default-walk
-enum_told-in_default-walk t c = c.in-Number-walk.in-Number-walk-own.keys2
 
 pub returns-in_default-walk : goal.returns-in_default-walk
 returns-in_default-walk t c =
     λ b h.
     let L = c.loop-at.invariant b h in
-    let H = halves L (c.look-head.ensures.0 L.block L.row) c.add_times.ensures c.in-Number.is c.run_from-start.ensures c.if-end-next.branch (λ w. w.taken) in
+    let H = halves L (c.look-head.ensures.0 L.block L.row) c.add_times.ensures c.in-Number.is c.run_from-start.ensures
+        {T = c.loop-at.end - c.look-head.result.next < c.look-head.result.next - c.run_from-start.result} {U = Unit {0}}
+        {start' = c.if-end-next.start} {stop = c.if-end-next.stop} {each = c.if-end-next.each} {at = c.if-end-next.at} {end = c.if-end-next.end} {times' = c.if-end-next.times}
+        (elim c.if-end-next.branch [
+          then-end-next w ↦ inl (w.if-end-next.true, w.at-is, w.end-is, w.times-is, w.start-is, w.stop-is, w.each-is)
+          | else-end-next w ↦ inr (tt, w.at-is, w.end-is, w.times-is, w.start-is, w.stop-is, w.each-is) ])
+        (λ w. w) in
     halves-large H (c.walk.ensures H.called (H.call-row c.if-start-stop.true)) c.in_default-walk.is
 
 pub loop-at-smaller-then-start-stop : goal.loop-at-smaller-then-start-stop
 loop-at-smaller-then-start-stop t c =
     let L = c.loop-at.invariant c.requires.0.0 c.requires.0.1 in
-    let H = halves L (c.look-head.ensures.0 L.block L.row) c.add_times.ensures c.in-Number.is c.run_from-start.ensures c.if-end-next.branch (λ w. w.taken) in
+    let H = halves L (c.look-head.ensures.0 L.block L.row) c.add_times.ensures c.in-Number.is c.run_from-start.ensures
+        {T = c.loop-at.end - c.look-head.result.next < c.look-head.result.next - c.run_from-start.result} {U = Unit {0}}
+        {start' = c.if-end-next.start} {stop = c.if-end-next.stop} {each = c.if-end-next.each} {at = c.if-end-next.at} {end = c.if-end-next.end} {times' = c.if-end-next.times}
+        (elim c.if-end-next.branch [
+          then-end-next w ↦ inl (w.if-end-next.true, w.at-is, w.end-is, w.times-is, w.start-is, w.stop-is, w.each-is)
+          | else-end-next w ↦ inr (tt, w.at-is, w.end-is, w.times-is, w.start-is, w.stop-is, w.each-is) ])
+        (λ w. w) in
     omega (arith, H.less, c.loop-at-test.true)
 
 pub loop-at-preserved-then-start-stop : goal.loop-at-preserved-then-start-stop
 loop-at-preserved-then-start-stop t c =
     λ b h.
     let L = c.loop-at.invariant b h in
-    let H = halves L (c.look-head.ensures.0 L.block L.row) c.add_times.ensures c.in-Number.is c.run_from-start.ensures c.if-end-next.branch (λ w. w.taken) in
+    let H = halves L (c.look-head.ensures.0 L.block L.row) c.add_times.ensures c.in-Number.is c.run_from-start.ensures
+        {T = c.loop-at.end - c.look-head.result.next < c.look-head.result.next - c.run_from-start.result} {U = Unit {0}}
+        {start' = c.if-end-next.start} {stop = c.if-end-next.stop} {each = c.if-end-next.each} {at = c.if-end-next.at} {end = c.if-end-next.end} {times' = c.if-end-next.times}
+        (elim c.if-end-next.branch [
+          then-end-next w ↦ inl (w.if-end-next.true, w.at-is, w.end-is, w.times-is, w.start-is, w.stop-is, w.each-is)
+          | else-end-next w ↦ inr (tt, w.at-is, w.end-is, w.times-is, w.start-is, w.stop-is, w.each-is) ])
+        (λ w. w) in
     halves-done H (c.walk.ensures H.called (H.call-row c.if-start-stop.true)) c.in-Number-walk.is
 
 pub loop-at-smaller : goal.loop-at-smaller
 loop-at-smaller t c =
     let L = c.loop-at.invariant c.requires.0.0 c.requires.0.1 in
-    let H = halves L (c.look-head.ensures.0 L.block L.row) c.add_times.ensures c.in-Number.is c.run_from-start.ensures c.if-end-next.branch (λ w. w.taken) in
+    let H = halves L (c.look-head.ensures.0 L.block L.row) c.add_times.ensures c.in-Number.is c.run_from-start.ensures
+        {T = c.loop-at.end - c.look-head.result.next < c.look-head.result.next - c.run_from-start.result} {U = Unit {0}}
+        {start' = c.if-end-next.start} {stop = c.if-end-next.stop} {each = c.if-end-next.each} {at = c.if-end-next.at} {end = c.if-end-next.end} {times' = c.if-end-next.times}
+        (elim c.if-end-next.branch [
+          then-end-next w ↦ inl (w.if-end-next.true, w.at-is, w.end-is, w.times-is, w.start-is, w.stop-is, w.each-is)
+          | else-end-next w ↦ inr (tt, w.at-is, w.end-is, w.times-is, w.start-is, w.stop-is, w.each-is) ])
+        (λ w. w) in
     omega (arith, H.less, c.loop-at-test.true)
 
 pub loop-at-preserved : goal.loop-at-preserved
 loop-at-preserved t c =
     λ b h.
     let L = c.loop-at.invariant b h in
-    let H = halves L (c.look-head.ensures.0 L.block L.row) c.add_times.ensures c.in-Number.is c.run_from-start.ensures c.if-end-next.branch (λ w. w.taken) in
+    let H = halves L (c.look-head.ensures.0 L.block L.row) c.add_times.ensures c.in-Number.is c.run_from-start.ensures
+        {T = c.loop-at.end - c.look-head.result.next < c.look-head.result.next - c.run_from-start.result} {U = Unit {0}}
+        {start' = c.if-end-next.start} {stop = c.if-end-next.stop} {each = c.if-end-next.each} {at = c.if-end-next.at} {end = c.if-end-next.end} {times' = c.if-end-next.times}
+        (elim c.if-end-next.branch [
+          then-end-next w ↦ inl (w.if-end-next.true, w.at-is, w.end-is, w.times-is, w.start-is, w.stop-is, w.each-is)
+          | else-end-next w ↦ inr (tt, w.at-is, w.end-is, w.times-is, w.start-is, w.stop-is, w.each-is) ])
+        (λ w. w) in
     halves-none H (omega (arith, c.if-start-stop.false))
 
 pub returns : goal.returns

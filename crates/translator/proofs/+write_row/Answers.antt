@@ -3,7 +3,9 @@ use Prim.Native.Nat.{ℕ, ◌<◌, ◌-◌}
 use native.Mathlib.Omega.{arith}
 use mathlib.Core.Path.{refl, sym, ◌∙◌}
 use Rattle.translator.specs.TranslationTasks.{Left, TaskIn}
-use Rattle.translator.proofs.TaskLaws.{end-room, head-room, left_end, left_one, left-start, one-room, turn-left, turn-less, turn-task, tuple-alone, tuple-room}
+use Rattle.translator.proofs.TaskLaws.{Came, end-room, head-room, left_end, left_one, left-start, one-room, turn-left, turn-less, turn-task, tuple-alone, tuple-room}
+use mathlib.Core.Logic.{◌⊎◌, inl, inr}
+use Rattle.translator.proofs.+write_row.Goals.{then-rest-inner, else-rest-inner}
 use Rattle.translator.proofs.+write_row.Goals as goal
 
 pub loop-left-init : goal.loop-left-init
@@ -70,31 +72,39 @@ write_row-requires t c =
     let t₀ = c.decreases in
     let s = c.loop-left.invariant c.requires.0 in
     let q = c.rows_of-parts.ensures s.task in
+    let came : Came (Unit {0}) (Unit {0}) c.rows_of-parts.result c.if-rest-inner.left c.if-rest-inner.shorter =
+        elim c.if-rest-inner.branch [ then-rest-inner w ↦ inl (tt, w.left-is, w.shorter-is) | else-rest-inner w ↦ inr (tt, w.left-is, w.shorter-is) ] in
     let low = s.low in
     let high = s.high in
-    let m = turn-less s q _ c.write_let_all.ensures c.write_let_all.auto.out c.if-rest-inner.branch in
+    let m = turn-less s q _ c.write_let_all.ensures c.write_let_all.auto.out came in
     let stop = m.2 in
-    (omega (arith, m.0), (turn-task s q _ c.write_let_all.ensures c.write_let_all.auto.out c.if-rest-inner.branch, omega (arith, stop, s.fits, c.write_let_all.auto.out)))
+    (omega (arith, m.0), (turn-task s q _ c.write_let_all.ensures c.write_let_all.auto.out came, omega (arith, stop, s.fits, c.write_let_all.auto.out)))
 
 pub loop-left-smaller-then-shorter : goal.loop-left-smaller-then-shorter
 loop-left-smaller-then-shorter t c =
     let s = c.loop-left.invariant c.requires.0 in
     let q = c.rows_of-parts.ensures s.task in
-    (turn-less s q _ c.write_let_all.ensures c.write_let_all.auto.out c.if-rest-inner.branch).1
+    let came : Came (Unit {0}) (Unit {0}) c.rows_of-parts.result c.if-rest-inner.left c.if-rest-inner.shorter =
+        elim c.if-rest-inner.branch [ then-rest-inner w ↦ inl (tt, w.left-is, w.shorter-is) | else-rest-inner w ↦ inr (tt, w.left-is, w.shorter-is) ] in
+    (turn-less s q _ c.write_let_all.ensures c.write_let_all.auto.out came).1
 
 pub loop-left-preserved-then-shorter : goal.loop-left-preserved-then-shorter
 loop-left-preserved-then-shorter t c =
     λ h.
     let s = c.loop-left.invariant h in
     let q = c.rows_of-parts.ensures s.task in
-    turn-left s q _ c.write_let_all.ensures c.write_let_all.auto.out c.if-rest-inner.branch _ c.write_row.ensures c.write_row.auto.out
+    let came : Came (Unit {0}) (Unit {0}) c.rows_of-parts.result c.if-rest-inner.left c.if-rest-inner.shorter =
+        elim c.if-rest-inner.branch [ then-rest-inner w ↦ inl (tt, w.left-is, w.shorter-is) | else-rest-inner w ↦ inr (tt, w.left-is, w.shorter-is) ] in
+    turn-left s q _ c.write_let_all.ensures c.write_let_all.auto.out came _ c.write_row.ensures c.write_row.auto.out
 
 pub write_tuple-requires : goal.write_tuple-requires
 write_tuple-requires t c =
     let s = c.loop-left.invariant c.requires.0 in
     let q = c.rows_of-parts.ensures s.task in
-    let m = turn-less s q _ c.write_let_all.ensures c.write_let_all.auto.out c.if-rest-inner.branch in
-    let task = turn-task s q _ c.write_let_all.ensures c.write_let_all.auto.out c.if-rest-inner.branch in
+    let came : Came (Unit {0}) (Unit {0}) c.rows_of-parts.result c.if-rest-inner.left c.if-rest-inner.shorter =
+        elim c.if-rest-inner.branch [ then-rest-inner w ↦ inl (tt, w.left-is, w.shorter-is) | else-rest-inner w ↦ inr (tt, w.left-is, w.shorter-is) ] in
+    let m = turn-less s q _ c.write_let_all.ensures c.write_let_all.auto.out came in
+    let task = turn-task s q _ c.write_let_all.ensures c.write_let_all.auto.out came in
     let stop = m.2 in
     (omega (arith, tuple-room task, stop, s.fits, c.write_let_all.auto.out), s.task.few)
 
@@ -102,14 +112,18 @@ pub loop-left-smaller : goal.loop-left-smaller
 loop-left-smaller t c =
     let s = c.loop-left.invariant c.requires.0 in
     let q = c.rows_of-parts.ensures s.task in
-    (turn-less s q _ c.write_let_all.ensures c.write_let_all.auto.out c.if-rest-inner.branch).1
+    let came : Came (Unit {0}) (Unit {0}) c.rows_of-parts.result c.if-rest-inner.left c.if-rest-inner.shorter =
+        elim c.if-rest-inner.branch [ then-rest-inner w ↦ inl (tt, w.left-is, w.shorter-is) | else-rest-inner w ↦ inr (tt, w.left-is, w.shorter-is) ] in
+    (turn-less s q _ c.write_let_all.ensures c.write_let_all.auto.out came).1
 
 pub loop-left-preserved : goal.loop-left-preserved
 loop-left-preserved t c =
     λ h.
     let s = c.loop-left.invariant h in
     let q = c.rows_of-parts.ensures s.task in
-    turn-left s q _ c.write_let_all.ensures c.write_let_all.auto.out c.if-rest-inner.branch _ (λ g. c.write_tuple.ensures ∙ tuple-alone g c.if-shorter.false _) c.write_tuple.auto.out
+    let came : Came (Unit {0}) (Unit {0}) c.rows_of-parts.result c.if-rest-inner.left c.if-rest-inner.shorter =
+        elim c.if-rest-inner.branch [ then-rest-inner w ↦ inl (tt, w.left-is, w.shorter-is) | else-rest-inner w ↦ inr (tt, w.left-is, w.shorter-is) ] in
+    turn-left s q _ c.write_let_all.ensures c.write_let_all.auto.out came _ (λ g. c.write_tuple.ensures ∙ tuple-alone g c.if-shorter.false _) c.write_tuple.auto.out
 
 pub write_tuple-requires-2 : goal.write_tuple-requires-2
 write_tuple-requires-2 t c =
