@@ -1,6 +1,6 @@
 -- Records that are begun and not ended: what is kept of their heads, and what one more piece of the output leaves to do.
 use Prim.Native.Nat.{◌+◌, ◌-◌, ◌<◌, ◌≤◌, ℕ}
-use mathlib.Core.Path.{ap, refl, sym, ◌∙◌, ◌≡◌}
+use mathlib.Core.Path.{ap, refl, subst, sym, ◌∙◌, ◌≡◌}
 use mathlib.Core.Bool.{Bool, false, true}
 use mathlib.Core.List.{◌++◌, List, [], append_assoc, append-nil}
 use borrow.Author.Tests.{eq-eqb, ne_eqb}
@@ -192,5 +192,4 @@ pub linked-nest : (ps : OpenRecords) (l : List ℕ) (o p : ℕ) (b : Block) → 
     → Linked (put l o (record_head 1 p)) (o + 4) o (opened o false b ps)
 unfolding opening
 linked-nest ps l o p b fits small s =
-    let e : record_head 1 p ≡ record_head 1 p ++ [] = sym (append-nil (record_head 1 p)) in
-    rw e (linked-open ps l [] o p 1 false b fits small (lit< tt) refl s)
+    subst (λ (y : List ℕ). Linked (put l o y) (o + 4) o (opened o false b ps)) (append-nil (record_head 1 p)) (linked-open ps l [] o p 1 false b fits small (lit< tt) refl s)

@@ -1,7 +1,7 @@
 -- The loop that writes the commands: what it meets, by the kinds read, and what is left to do after each turn; and the whole
 -- record.
 use Prim.Native.Nat.{◌*◌, ◌+◌, ◌-◌, ◌<◌, ◌≤◌, ℕ}
-use mathlib.Core.Path.{ap, refl, sym, ◌∙◌, ◌≡◌}
+use mathlib.Core.Path.{ap, refl, subst, sym, ◌∙◌, ◌≡◌}
 use mathlib.Core.Bool.{false, true}
 use mathlib.Core.Option.{some-injective, some}
 use mathlib.Core.List.{◌++◌, List}
@@ -152,7 +152,7 @@ module _ {l : List ℕ} {k to at : ℕ} {b : List ℕ} {o p : ℕ} {m : List ℕ
               next = λ b₁ q eb eq n₁. record {
                 opens = opened h f r ps;
                 row = rw eq t.2;
-                linked = rw eb (linked-behind (opened h f r ps) b (assign_bytes x c) o (o + 16) p (omega arith) (omega arith) linked);
+                linked = subst (λ (y : List ℕ). Linked y (o + 16) p (opened h f r ps)) (sym eb) (linked-behind (opened h f r ps) b (assign_bytes x c) o (o + 16) p (omega arith) (omega arith) linked);
                 same = rw eb (sym (finish-more b (assign_bytes x c) o (o + 16) h f (assign x c r) r ps (assign-bytes x c r) n (omega arith)) ∙ same);
                 ends = sym (end_more o 16 h f (assign x c r) r ps size) ∙ ends;
                 fits = omega arith;
@@ -199,7 +199,7 @@ module _ {l : List ℕ} {k to at : ℕ} {b : List ℕ} {o p : ℕ} {m : List ℕ
                 next = λ b₁ q eb eq n₁. record {
                   opens = opened o true c (opened h f r ps);
                   row = rw eq t.3;
-                  linked = rw eb (linked-loop (opened h f r ps) b o p x n c (omega arith) (omega (arith, linked.0, linked.1)) linked);
+                  linked = subst (λ (y : List ℕ). Linked y (o + 20) o (opened o true c (opened h f r ps))) (sym eb) (linked-loop (opened h f r ps) b o p x n c (omega arith) (omega (arith, linked.0, linked.1)) linked);
                   same = rw eb (sym (finish-open b (loop_bytes x n (20 + block_size c) (4 + block_size c)) (loop_bytes x n p 0) o (o + 20) h f true (loop x n c r) c r ps (loop-bytes x n c r) closes (ap (λ (y : ℕ). o + y) (length-loop_bytes x n (20 + block_size c) (4 + block_size c))) (omega arith)) ∙ same);
                   ends = sym (end-open o 20 h f true (loop x n c r) c r ps size) ∙ ends;
                   fits = omega arith;
@@ -229,7 +229,7 @@ module _ {l : List ℕ} {k to at : ℕ} {b : List ℕ} {o p : ℕ} {m : List ℕ
                 next = λ b₁ eb n₁. record {
                   opens = opened o false c (opened h f r ps);
                   row = t.2;
-                  linked = rw eb (linked-nest (opened h f r ps) b o p c (omega arith) (omega (arith, linked.0, linked.1)) linked);
+                  linked = subst (λ (y : List ℕ). Linked y (o + 4) o (opened o false c (opened h f r ps))) (sym eb) (linked-nest (opened h f r ps) b o p c (omega arith) (omega (arith, linked.0, linked.1)) linked);
                   same = rw eb (sym (finish-open b (record_head 1 (4 + block_size c)) (record_head 1 p) o (o + 4) h f false (nest c r) c r ps (encode_block-nest c r) closes (ap (λ (y : ℕ). o + y) (length-record_head 1 (4 + block_size c))) (omega arith)) ∙ same);
                   ends = sym (end-open o 4 h f false (nest c r) c r ps size) ∙ ends;
                   fits = omega arith;
@@ -260,7 +260,7 @@ write-start {p = p} {out₁ = out₁} out b h small e n =
     record {
       opens = opened p false b all_ended;
       row = h.here;
-      linked = rw e (linked-nest all_ended out p 0 b (omega arith) (lit< tt) tt);
+      linked = subst (λ (y : List ℕ). Linked y (p + 4) p (opened p false b all_ended)) (sym e) (linked-nest all_ended out p 0 b (omega arith) (lit< tt) tt);
       same = ap (λ (y : List ℕ). closed false (put y (p + 4) (encode_block b)) p (p + 4 + block_size b)) e
           ∙ closes-nest out (encode_block b) p (p + 4) (p + 4 + block_size b) 0 (block_size b) (sym (length-encode_block b)) refl refl (omega arith)
           ∙ sym (write_again b out₁ out p e (omega arith));

@@ -1,9 +1,5 @@
 use native.Mathlib.Omega.{arith}
-use mathlib.Core.List.{List}
-use Prim.Native.Nat.{◌+◌, ◌-◌, ◌≤◌}
-use Rattle.rules.specs.Syntax.{Term}
-use Rattle.recognition.specs.Scan.{TermsUpTo}
-use Rattle.readback.proofs.CommandLaws.{ToCount, count-end, count-here, count_low, count_next, count-start, count_room}
+use Rattle.readback.proofs.CommandLaws.{count-end, count-here, count_low, count_next, count-start, count_room}
 use Rattle.recognition.proofs.ScanLaws.{terms-order, terms-pass}
 use Rattle.readback.proofs.commands_size.Goals as goal
 
@@ -47,4 +43,7 @@ loop-at-preserved c =
 pub returns : goal.returns
 returns c =
     let q = c.requires.0 in
-    ((λ ts h. count-end (c.loop-at.invariant.0 ts h) c.loop-at-test.false), omega (arith, terms-order (c.loop-at.invariant.0 q.0 q.1).row, c.loop-at.invariant.1))
+    record {
+      is = λ ts h. count-end (c.loop-at.invariant.0 ts h) c.loop-at-test.false;
+      low = omega (arith, terms-order (c.loop-at.invariant.0 q.0 q.1).row, c.loop-at.invariant.1);
+    }

@@ -1,10 +1,8 @@
-use native.Mathlib.Omega.{arith}
 use mathlib.Core.List.{List}
 use Prim.Native.Nat.{◌+◌, ◌-◌, ◌≤◌}
 use Rattle.rules.specs.Syntax.{Term}
 use Rattle.recognition.specs.Scan.{TermsUpTo}
-use Rattle.readback.proofs.CommandLaws.{ToCount, count-end, count-here, count_low, count_next, count-start, count_room}
-use Rattle.recognition.proofs.ScanLaws.{terms-order, terms-pass}
+use Rattle.readback.proofs.CommandLaws.{ToCount}
 use Rattle.readback.proofs.commands_size.Given as goal
 
 abbrev pub invariant-loop-at : goal.invariant-loop-at

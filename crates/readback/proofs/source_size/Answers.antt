@@ -17,8 +17,8 @@ commands_size-requires c =
     ((c.requires.0.0 ∷ [], terms-record c.requires.0.1 c.requires.1 c.contents_at-start.ensures), c.requires.0.1.within)
 
 pub overflow_add-result-2 : goal.overflow_add-result-2
-overflow_add-result-2 c = omega (arith, c.commands_size.ensures.1, c.requires.0.1.within)
+overflow_add-result-2 c = omega (arith, c.commands_size.ensures.low, c.requires.0.1.within)
 
 pub returns : goal.returns
 returns c =
-    λ t P h e. omega (arith, c.contents_at-start.ensures, c.commands_size.ensures.0 (t ∷ []) (terms-record h c.requires.1 c.contents_at-start.ensures), program-length c.args.h t P e)
+    λ t P h e. omega (arith, c.contents_at-start.ensures, c.commands_size.ensures.is (t ∷ []) (terms-record h c.requires.1 c.contents_at-start.ensures), program-length c.args.h t P e)

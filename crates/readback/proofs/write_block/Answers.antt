@@ -1,16 +1,7 @@
 -- Each turn leaves the end as it was: what is written, and what is left to do, make the same block.
-use borrow.Author.Rules.{rules}
 use native.Mathlib.Omega.{arith}
-use mathlib.Core.List.{◌++◌}
-use mathlib.Core.Path.{refl, sym, ◌∙◌, ◌≡◌}
-use Prim.Native.Nat.{◌+◌, ◌-◌}
-use lib.ListN.{length}
-use Rattle.buffer.specs.Slice.{put}
-use Rattle.place.specs.Heads.{record_head}
-use Rattle.record.specs.Program.{block_size, encode_block}
-use Rattle.rules.specs.Syntax.{Block}
-use Rattle.readback.specs.OpenRecords.{BlockFits}
-use Rattle.readback.proofs.WriteLaws.{ToWrite, fits-same, write_again, write-assign, write-close, write-end, write-first, write-loop, write-nest, write-room, write-start}
+use mathlib.Core.Path.{refl, sym, ◌∙◌}
+use Rattle.readback.proofs.WriteLaws.{fits-same, write_again, write-assign, write-close, write-end, write-first, write-loop, write-nest, write-room, write-start}
 use Rattle.readback.proofs.write_block.Goals as goal
 
 pub overflow_add-o : goal.overflow_add-o

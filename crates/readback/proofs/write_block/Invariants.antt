@@ -1,8 +1,6 @@
 -- Each turn leaves the end as it was: what is written, and what is left to do, make the same block.
-use borrow.Author.Rules.{rules}
-use native.Mathlib.Omega.{arith}
 use mathlib.Core.List.{◌++◌}
-use mathlib.Core.Path.{refl, sym, ◌∙◌, ◌≡◌}
+use mathlib.Core.Path.{◌≡◌}
 use Prim.Native.Nat.{◌+◌, ◌-◌}
 use lib.ListN.{length}
 use Rattle.buffer.specs.Slice.{put}
@@ -10,7 +8,7 @@ use Rattle.place.specs.Heads.{record_head}
 use Rattle.record.specs.Program.{block_size, encode_block}
 use Rattle.rules.specs.Syntax.{Block}
 use Rattle.readback.specs.OpenRecords.{BlockFits}
-use Rattle.readback.proofs.WriteLaws.{ToWrite, fits-same, write_again, write-assign, write-close, write-end, write-first, write-loop, write-nest, write-room, write-start}
+use Rattle.readback.proofs.WriteLaws.{ToWrite}
 use Rattle.readback.proofs.write_block.Given as goal
 
 abbrev pub invariant-loop-at : goal.invariant-loop-at
