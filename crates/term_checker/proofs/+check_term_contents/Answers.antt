@@ -1,7 +1,6 @@
-use Prim.Native.Nat.{ℕ, ◌<◌, ◌-◌, ◌≤◌}
-use mathlib.Core.Path.{◌≡◌, ap, refl, sym, ◌∙◌}
+use Prim.Native.Nat.{◌-◌}
+use mathlib.Core.Path.{ap, refl, sym, ◌∙◌}
 use native.Mathlib.Omega.{arith}
-use borrow.Author.Rules.{rules}
 use lib.ListN.{drop, length, length-drop, take}
 use Rattle.record.specs.Header.{term_in}
 use Rattle.record.proofs.AloneLaws.{take_rest}
@@ -71,7 +70,7 @@ slice_bounds-check_term_contents-end t c =
 pub check_term_contents-requires : goal.check_term_contents-requires
 check_term_contents-requires t c =
     let o = rw c.in-Two.is at c.open_term-opened.ensures in
-    (omega (arith, c.check_term_contents-arg-1.given.2, o.0, o.1, c.loop-v.invariant.1, c.decreases), tt)
+    (omega (arith, o.0, o.1, c.loop-v.invariant.1, c.decreases), tt)
 
 pub slice_bounds-left-count-then-second-left : goal.slice_bounds-left-count-then-second-left
 slice_bounds-left-count-then-second-left t c =
@@ -110,7 +109,7 @@ slice_bounds-check_term_contents-start-else-second-left t c =
 pub check_term_contents-requires-else-second-left : goal.check_term_contents-requires-else-second-left
 check_term_contents-requires-else-second-left t c =
     let o = rw c.in-Two.is at c.open_term-opened.ensures in
-    (omega (arith, c.check_term_contents-arg-else-second-left-1.given.2, o.0, o.1, c.loop-v.invariant.1, c.decreases), tt)
+    (omega (arith, o.0, o.1, c.loop-v.invariant.1, c.decreases), tt)
 
 pub slice_bounds-left-count-else-second-left : goal.slice_bounds-left-count-else-second-left
 slice_bounds-left-count-else-second-left t c =
@@ -130,7 +129,7 @@ slice_bounds-left-end-else-second-left t c =
 pub loop-v-smaller : goal.loop-v-smaller
 loop-v-smaller t c =
     let o = rw c.in-Two.is at c.open_term-opened.ensures in
-    omega (arith, c.left-else-second-left-1.given.2, o.0, o.1)
+    omega (arith, o.0, o.1)
 
 pub loop-v-preserved : goal.loop-v-preserved
 loop-v-preserved t c =
@@ -140,4 +139,4 @@ loop-v-preserved t c =
     let first = term_verdict c.args.k c.args.largest (term_in c.args.k (take (n - 4) (drop 4 l))) in
     let last = term_verdict c.args.k c.args.largest (term_in c.args.k (drop n l)) in
     let call = c.check_term_contents-else-second-left.ensures ∙ ap (λ b. term_verdict c.args.k c.args.largest (term_in c.args.k b)) (take_rest n l) in
-    (worse-turn c.loop-v.found last first c.worst-found-else-second-left.result c.loop-v.invariant.0 (o.2 ∙ worse-comm first last) (c.worst-found-else-second-left.ensures ∙ ap (worse c.loop-v.found) call), omega (arith, c.left-else-second-left-1.given.2, o.0, o.1, c.loop-v.invariant.1))
+    (worse-turn c.loop-v.found last first c.worst-found-else-second-left.result c.loop-v.invariant.0 (o.2 ∙ worse-comm first last) (c.worst-found-else-second-left.ensures ∙ ap (worse c.loop-v.found) call), omega (arith, o.0, o.1, c.loop-v.invariant.1))

@@ -1,14 +1,9 @@
-use Prim.Native.Nat.{ℕ, ◌<◌, ◌-◌, ◌≤◌}
-use mathlib.Core.Path.{◌≡◌, ap, refl, sym, ◌∙◌}
-use native.Mathlib.Omega.{arith}
-use borrow.Author.Rules.{rules}
-use lib.ListN.{drop, length, length-drop, take}
+use Prim.Native.Nat.{◌≤◌}
+use mathlib.Core.Path.{◌≡◌}
+use lib.ListN.{length}
 use Rattle.record.specs.Header.{term_in}
-use Rattle.record.proofs.AloneLaws.{take_rest}
 use Rattle.checker.specs.Verdict.{worse}
-use Rattle.checker.proofs.VerdictLaws.{worse-comm}
 use Rattle.term_checker.specs.TermVerdict.{term_verdict}
-use Rattle.term_checker.proofs.TermVerdictLaws.{worse-turn}
 use Rattle.term_checker.proofs.+check_term_contents.Given as goal
 
 abbrev pub decreases-check_term_contents : goal.decreases-check_term_contents

@@ -1,4 +1,3 @@
-use borrow.Author.Rules.{rules}
 use Prim.Native.Nat.{ℕ}
 use mathlib.Core.Path.{ap, sym, ◌∙◌}
 use native.Mathlib.Omega.{arith}
@@ -59,7 +58,7 @@ pub returns-in_default : goal.returns-in_default
 returns-in_default c =
     let a = c.args in
     let kind = stands-kind a.s.now a.at _ _ (sym c.head_at.ensures ∙ c.in-Record.is) in
-    sym (verdict-none (atom_rating a.k a.largest) _ (only_atom-other _ (λ q. omega (arith, kind, q, c.in_default.in_default-own.rest)) (λ q. omega (arith, kind, q, c.in_default.in_default-own.rest))))
+    sym (verdict-none (atom_rating a.k a.largest) _ (only_atom-other _ (λ q. omega (arith, kind, q)) (λ q. omega (arith, kind, q))))
 
 pub returns-in-End : goal.returns-in-End
 returns-in-End c =

@@ -1,11 +1,9 @@
-use Prim.Native.Nat.{◌*◌, ◌+◌, ◌-◌, suc, ℕ}
+use Prim.Native.Nat.{◌*◌, ◌-◌, suc, ℕ}
 use mathlib.Core.Path.{◌≡◌, ap, sym, ◌∙◌}
 use mathlib.Core.List.{[]}
-use mathlib.Core.Logic.{⊎_elim}
 use mathlib.Core.Option.{some}
 use native.Mathlib.Omega.{arith}
 use Rattle.term_checker.specs.TermVerdict.{atoms_rating}
-use borrow.Author.Rules.{rules}
 use Rattle.buffer.specs.Slice.{part}
 use Rattle.buffer.proofs.SliceLaws.{length_part}
 use Rattle.record.specs.Term.{decode_atoms}
@@ -16,6 +14,7 @@ use Rattle.checker.proofs.VerdictLaws.{worse-good}
 use Rattle.term_checker.proofs.TermOpensLaws.{above-fine, atoms-malformed, atoms-onward, atoms-turn, good-fine, outside-fine}
 use Rattle.term_checker.proofs.TermVerdictLaws.{none-verdict, verdict-none}
 use Rattle.term_checker.proofs.check_atoms.Goals as goal
+use Rattle.term_checker.proofs.check_atoms.Goals.{in-Good, in-Above, in-Outside}
 
 pub overflow_sub-end : goal.overflow_sub-end
 overflow_sub-end c = omega (arith, c.requires.0)
@@ -43,7 +42,7 @@ returns-in-Malformed c =
 
 pub loop-place-smaller : goal.loop-place-smaller
 loop-place-smaller c =
-    let fine : c.check_atom.result ≡ Malformed → ⊥ = ⊎_elim (λ x. good-fine x.1.given.1) (⊎_elim (λ x. above-fine x.1.given.1) (λ x. outside-fine x.1.given.1)) c.in-Good.in-Good-own.branch in
+    let fine : c.check_atom.result ≡ Malformed → ⊥ = elim c.match-check_atom.branch [ in-Good w ↦ good-fine w.in-Good.is | in-Above w ↦ above-fine w.in-Above.is | in-Outside w ↦ outside-fine w.in-Outside.is ] in
     let next = c.after-place.ensures ∙ atoms-onward c.args.k c.args.largest c.args.s.now c.loop-place.place c.check_atom.result c.check_atom.ensures fine in
     omega (arith, next, c.loop-place-test.true)
 
@@ -52,11 +51,11 @@ loop-place-preserved c =
     let a = c.args in
     let i = c.loop-place.invariant in
     let e : suc (i.0 - 1) ≡ i.0 = omega (arith, i.1, c.loop-place-test.true) in
-    let fine : c.check_atom.result ≡ Malformed → ⊥ = ⊎_elim (λ x. good-fine x.1.given.1) (⊎_elim (λ x. above-fine x.1.given.1) (λ x. outside-fine x.1.given.1)) c.in-Good.in-Good-own.branch in
-    let went : c.in-Good.in-Good-own.found ≡ worse c.loop-place.found c.check_atom.result = ⊎_elim (λ x. x.2 ∙ sym (ap (worse c.loop-place.found) x.1.given.1 ∙ worse-good c.loop-place.found)) (⊎_elim (λ x. x.3 ∙ x.2.ensures ∙ ap (worse c.loop-place.found) (sym x.1.given.1)) (λ x. x.3 ∙ x.2.ensures ∙ ap (worse c.loop-place.found) (sym x.1.given.1))) c.in-Good.in-Good-own.branch in
+    let fine : c.check_atom.result ≡ Malformed → ⊥ = elim c.match-check_atom.branch [ in-Good w ↦ good-fine w.in-Good.is | in-Above w ↦ above-fine w.in-Above.is | in-Outside w ↦ outside-fine w.in-Outside.is ] in
+    let went : c.match-check_atom.found ≡ worse c.loop-place.found c.check_atom.result = elim c.match-check_atom.branch [ in-Good w ↦ w.found-is ∙ sym (ap (worse c.loop-place.found) w.in-Good.is ∙ worse-good c.loop-place.found) | in-Above w ↦ w.found-is ∙ w.worst-found.ensures ∙ ap (worse c.loop-place.found) (sym w.in-Above.is) | in-Outside w ↦ w.found-is ∙ w.worst-found-in-Outside.ensures ∙ ap (worse c.loop-place.found) (sym w.in-Outside.is) ] in
     let next = c.after-place.ensures ∙ atoms-onward a.k a.largest a.s.now c.loop-place.place c.check_atom.result c.check_atom.ensures fine in
-    let turn = atoms-turn a.k a.largest a.s.now c.loop-place.place (i.0 - 1) (omega (arith, i.1, e, c.requires.1)) c.loop-place.found c.check_atom.result c.in-Good.in-Good-own.found (rw (← e) at i.2) c.check_atom.ensures went in
-    (i.0 - 1, omega (arith, next, i.1, e), turn ∙ ap (λ (p : ℕ). worse c.in-Good.in-Good-own.found (verdict (atoms_rating a.k a.largest) (decode_atoms (i.0 - 1) (part a.s.now p (8 * (i.0 - 1)))))) (sym next))
+    let turn = atoms-turn a.k a.largest a.s.now c.loop-place.place (i.0 - 1) (omega (arith, i.1, e, c.requires.1)) c.loop-place.found c.check_atom.result c.match-check_atom.found (rw (← e) at i.2) c.check_atom.ensures went in
+    (i.0 - 1, omega (arith, next, i.1, e), turn ∙ ap (λ (p : ℕ). worse c.match-check_atom.found (verdict (atoms_rating a.k a.largest) (decode_atoms (i.0 - 1) (part a.s.now p (8 * (i.0 - 1)))))) (sym next))
 
 pub returns : goal.returns
 returns c =

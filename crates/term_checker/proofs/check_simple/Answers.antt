@@ -1,5 +1,3 @@
-use borrow.Author.Rules.{rules}
-use mathlib.Core.Logic.{⊎_elim}
 use mathlib.Core.Path.{ap, sym, ◌∙◌}
 use native.Mathlib.Omega.{arith}
 use Rattle.term_checker.specs.TermVerdict.{atom_rating, simple_rating}
@@ -12,6 +10,7 @@ use Rattle.term_checker.proofs.TermWalkLaws.{atom-none, inner-none, inner-record
 use Rattle.term_checker.proofs.TermVerdictLaws.{verdict-none}
 use Rattle.term_checker.proofs.TermOpensLaws.{plain-verdict, wrapped-verdict}
 use Rattle.term_checker.proofs.check_simple.Goals as goal
+use Rattle.term_checker.proofs.check_simple.Goals.{in_default-via-then-kind-lt34, in_default-via-else-kind-lt34+else-kind-lt36}
 
 pub overflow_add-at : goal.overflow_add-at
 overflow_add-at c =
@@ -22,7 +21,7 @@ pub returns-then-after : goal.returns-then-after
 returns-then-after c =
     let a = c.args in
     let kind = stands-kind a.s.now a.at _ _ (sym c.head_at.ensures ∙ c.in-Record.is) in
-    sym (wrapped-verdict a.k a.largest (record_at a.s.now a.at) (omega (arith, kind, c.in-34-to-35.if-kind-lt34-own.false, c.in-34-to-35.if-kind-lt36-own.true)) (omega (arith, kind, c.in-34-to-35.if-kind-lt34-own.false, c.in-34-to-35.if-kind-lt36-own.true)) ∙ verdict-none (atom_rating a.k a.largest) _ (atom-none _ (inner-none a.s.now a.at (λ q. c.if-after.true (c.after.ensures ∙ q ∙ sym c.after-in-34-to-35.ensures)))))
+    sym (wrapped-verdict a.k a.largest (record_at a.s.now a.at) (omega (arith, kind)) (omega (arith, kind)) ∙ verdict-none (atom_rating a.k a.largest) _ (atom-none _ (inner-none a.s.now a.at (λ q. c.if-after.true (c.after.ensures ∙ q ∙ sym c.after-in-34-to-35.ensures)))))
 
 pub overflow_add-at-in-34-to-35 : goal.overflow_add-at-in-34-to-35
 overflow_add-at-in-34-to-35 c =
@@ -35,14 +34,14 @@ returns-else-after c =
     let kind = stands-kind a.s.now a.at _ _ (sym c.head_at.ensures ∙ c.in-Record.is) in
     c.check_atom.ensures
     ∙ ap (λ b. verdict (atom_rating a.k a.largest) (only_atom b)) (inner-record a.s.now a.at (sym c.after.ensures ∙ c.if-after.false ∙ c.after-in-34-to-35.ensures))
-    ∙ sym (wrapped-verdict a.k a.largest (record_at a.s.now a.at) (omega (arith, kind, c.in-34-to-35.if-kind-lt34-own.false, c.in-34-to-35.if-kind-lt36-own.true)) (omega (arith, kind, c.in-34-to-35.if-kind-lt34-own.false, c.in-34-to-35.if-kind-lt36-own.true)))
+    ∙ sym (wrapped-verdict a.k a.largest (record_at a.s.now a.at) (omega (arith, kind)) (omega (arith, kind)))
 
 pub returns-in_default : goal.returns-in_default
 returns-in_default c =
     let a = c.args in
     let kind = stands-kind a.s.now a.at _ _ (sym c.head_at.ensures ∙ c.in-Record.is) in
     c.check_atom-in_default.ensures
-    ∙ sym (plain-verdict a.k a.largest (record_at a.s.now a.at) (λ e. ⊎_elim (λ w. omega arith) (λ w. omega arith) c.in-34-to-35.if-kind-lt34-own.branch) (λ e. ⊎_elim (λ w. omega arith) (λ w. omega arith) c.in-34-to-35.if-kind-lt34-own.branch))
+    ∙ sym (plain-verdict a.k a.largest (record_at a.s.now a.at) (λ e. elim c.in_default.branch [ in_default-via-then-kind-lt34 w ↦ omega (arith, kind, e) | in_default-via-else-kind-lt34+else-kind-lt36 w ↦ omega (arith, kind, e) ]) (λ e. elim c.in_default.branch [ in_default-via-then-kind-lt34 w ↦ omega (arith, kind, e) | in_default-via-else-kind-lt34+else-kind-lt36 w ↦ omega (arith, kind, e) ]))
 
 pub returns-in-End : goal.returns-in-End
 returns-in-End c =

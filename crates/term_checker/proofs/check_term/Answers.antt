@@ -1,4 +1,3 @@
-use borrow.Author.Rules.{rules}
 use mathlib.Core.Path.{sym, ◌∙◌}
 use Rattle.record.proofs.HeaderReadLaws.{check-term-one}
 use Rattle.term_checker.proofs.check_term.Goals as goal

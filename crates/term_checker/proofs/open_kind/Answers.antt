@@ -1,4 +1,3 @@
-use borrow.Author.Rules.{rules}
 use mathlib.Core.Path.{refl, sym, ◌∙◌}
 use native.Mathlib.Omega.{arith}
 use Rattle.record.proofs.TermReadLaws.{term-other}
@@ -20,7 +19,7 @@ returns-in-36 c =
 
 pub returns-in_default : goal.returns-in_default
 returns-in_default c =
-    none-opens c.args.k c.args.largest c.args.s.now (term-other c.args.k c.args.s.now (λ e. omega (arith, e, c.requires, c.in_default.in_default-own.rest)) (λ e. omega (arith, e, c.requires, c.in_default.in_default-own.rest)) (λ e. omega (arith, e, c.requires, c.in_default.in_default-own.rest)) (λ e. omega (arith, e, c.requires, c.in_default.in_default-own.rest)))
+    none-opens c.args.k c.args.largest c.args.s.now (term-other c.args.k c.args.s.now (λ e. omega (arith, e, c.requires)) (λ e. omega (arith, e, c.requires)) (λ e. omega (arith, e, c.requires)) (λ e. omega (arith, e, c.requires)))
 
 pub returns-in-Program : goal.returns-in-Program
 returns-in-Program c =

@@ -1,4 +1,3 @@
-use borrow.Author.Rules.{rules}
 use Rattle.term_checker.proofs.TermOpensLaws.{let_all-opens}
 use Rattle.term_checker.proofs.open_let_all.Goals as goal
 

@@ -1,4 +1,3 @@
-use borrow.Author.Rules.{rules}
 use mathlib.Core.Path.{sym, ◌∙◌}
 use Rattle.term_checker.proofs.WalkLaws.{alone-kind, end-kind, more-kind, short-kind}
 use Rattle.term_checker.proofs.TermWalkLaws.{term-none}
