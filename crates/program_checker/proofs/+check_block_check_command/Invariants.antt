@@ -1,23 +1,12 @@
 -- The measure is twice the length, and one more for a block. The loop's invariant: the verdict is the worse of what was found
 -- and the verdict on what is left, from `at` up to `end`.
-use Prim.Native.Nat.{ℕ, ◌<◌, ◌*◌, ◌+◌, ◌-◌, ◌≤◌}
-use native.Mathlib.Omega.{arith}
-use borrow.Author.Rules.{rules}
-use mathlib.Core.Path.{◌≡◌, ap, refl, sym, ◌∙◌}
-use mathlib.Core.Logic.{⊎_elim}
-use mathlib.Core.List.{List}
+use Prim.Native.Nat.{◌*◌, ◌+◌, ◌-◌, ◌≤◌}
+use mathlib.Core.Path.{◌≡◌}
 use lib.ListN.{length}
-use lib.Seq.{length-take-le}
-use borrow.Author.Tests.{not-false}
-use Rattle.rules.proofs.Tests.{true-false}
 use Rattle.record.specs.Program.{decode_block}
-use Rattle.record.proofs.BetweenLaws.{between-all, between-rest}
-use Rattle.checker.specs.declared.Verdict.{Verdict}
 use Rattle.checker.specs.Verdict.{worse}
-use Rattle.checker.proofs.VerdictLaws.{worse-good, worse-malformed}
 use Rattle.program_checker.specs.BlockVerdict.{block_verdict}
-use Rattle.program_checker.proofs.CommandRowLaws.{FirstCommand, Turned, first-front, row-end, row_first, row-inner, row-left, row-short, row_verdict, turn_last, turn-rest, turn-whole}
-use Rattle.program_checker.proofs.ProgramVerdictLaws.{opens-all}
+use Rattle.program_checker.proofs.CommandRowLaws.{row_verdict}
 use Rattle.program_checker.proofs.+check_block_check_command.Given as goal
 
 abbrev pub decreases-check_block : goal.decreases-check_block

@@ -1,5 +1,4 @@
 -- The record is 16 bytes; then its two parts decide.
-use borrow.Author.Rules.{rules}
 use mathlib.Core.Path.{ap, ap₂, sym, ◌∙◌}
 use native.Mathlib.Omega.{arith}
 use Prim.Native.Nat.{ℕ}

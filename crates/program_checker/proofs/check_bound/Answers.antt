@@ -1,5 +1,4 @@
 -- Up to kind 17 a bound is read as an expression is.
-use borrow.Author.Rules.{rules}
 use mathlib.Core.Path.{ap, sym, ◌∙◌}
 use native.Mathlib.Omega.{arith}
 use Rattle.record.proofs.ExpressionReadLaws.{bound-expr, bound-no-kind}

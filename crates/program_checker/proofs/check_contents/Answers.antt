@@ -1,5 +1,4 @@
 -- One block and nothing after it, or no block.
-use borrow.Author.Rules.{rules}
 use mathlib.Core.Path.{ap, sym, ◌∙◌}
 use Rattle.record.specs.Program.{decode_block}
 use Rattle.record.proofs.BetweenLaws.{between-rest}

@@ -1,4 +1,3 @@
-use borrow.Author.Rules.{rules}
 use mathlib.Core.Path.{sym, ◌∙◌}
 use Rattle.record.proofs.HeaderReadLaws.{check-program-one}
 use Rattle.program_checker.proofs.check_program.Goals as goal

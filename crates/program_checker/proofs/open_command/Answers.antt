@@ -1,5 +1,4 @@
 -- By the class, then by the kind: what is inside a block is its contents; what is inside an assignment, or no command, is nothing.
-use borrow.Author.Rules.{rules}
 use mathlib.Core.Path.{ap, refl, sym, ◌∙◌}
 use native.Mathlib.Omega.{arith}
 use lib.ListN.{drop}

@@ -1,5 +1,4 @@
 -- The block inside reaches to the record's end; then the index and the bound decide.
-use borrow.Author.Rules.{rules}
 use mathlib.Core.Path.{ap, ap₂, sym, ◌∙◌}
 use native.Mathlib.Omega.{arith}
 use Prim.Native.Nat.{ℕ}
