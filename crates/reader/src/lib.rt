@@ -23,7 +23,7 @@ pub enum Head {
 }
 
 fn read_head(bytes: &[u8], at: usize) -> Head
-    ensures { result ≡ head_at bytes.now at }
+    ensures { result ≡ (head_at bytes.now at) }
 {
     if bytes.len() <= at {
         return Head::End;
@@ -44,7 +44,7 @@ fn read_head(bytes: &[u8], at: usize) -> Head
 
 // A reader stays where it is where no whole record stands.
 fn skip(bytes: &[u8], at: usize) -> usize
-    ensures { result ≡ next_at bytes.now at }
+    ensures { result ≡ (next_at bytes.now at) }
 {
     match read_head(bytes, at) {
         Head::Record(length, _) => at + length,

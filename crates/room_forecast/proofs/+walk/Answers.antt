@@ -4,7 +4,9 @@ use mathlib.Core.Path.{◌∙◌}
 use native.Mathlib.Omega.{arith}
 use Rattle.rules.specs.Syntax.{Block}
 use Rattle.room_forecast.specs.Walked.{Left, RowsTo, part_from}
-use Rattle.room_forecast.proofs.WalkedLaws.{end_fits, left_end, left-fits, left-start, split-order, none-less, turn-left, turn-less, turn-none, turn-order, turn-rows, turn-short}
+use Rattle.room_forecast.proofs.WalkedLaws.{Came, end_fits, left_end, left-fits, left-start, split-order, none-less, turn-left, turn-less, turn-none, turn-order, turn-rows, turn-short}
+use mathlib.Core.Logic.{inl, inr}
+use Rattle.room_forecast.proofs.+walk.Goals.{then-rest-inside, else-rest-inside}
 use Rattle.room_forecast.proofs.+walk.Goals as goal
 
 pub row_part-left-requires : goal.row_part-left-requires
@@ -34,42 +36,54 @@ pub overflow_sub-shorter : goal.overflow_sub-shorter
 overflow_sub-shorter t c =
     let left = c.loop-left.invariant c.requires.0.0 c.requires.0.1.0 in
     let parts = c.split-parts.ensures left.block left.rows in
-    turn-order left parts c.if-inside.true c.if-rest-inside.branch
+    let came : Came (Unit {0}) (Unit {0}) c.split-parts.result c.if-rest-inside.left c.if-rest-inside.shorter =
+        elim c.if-rest-inside.branch [ then-rest-inside w ↦ inl (tt, w.left-is, w.shorter-is) | else-rest-inside w ↦ inr (tt, w.left-is, w.shorter-is) ] in
+    turn-order left parts c.if-inside.true came
 
 pub walk-most-requires : goal.walk-most-requires
 walk-most-requires t c =
     let left = c.loop-left.invariant c.requires.0.0 c.requires.0.1.0 in
     let parts = c.split-parts.ensures left.block left.rows in
+    let came : Came (Unit {0}) (Unit {0}) c.split-parts.result c.if-rest-inside.left c.if-rest-inside.shorter =
+        elim c.if-rest-inside.branch [ then-rest-inside w ↦ inl (tt, w.left-is, w.shorter-is) | else-rest-inside w ↦ inr (tt, w.left-is, w.shorter-is) ] in
     let whole = c.decreases in
     let low = left.low in
     let high = left.high in
-    (omega (arith, (turn-less left parts c.if-inside.true c.if-rest-inside.branch c.loop-left-test.true).0), (turn-rows left parts c.if-inside.true c.if-rest-inside.branch c.requires.0.1.1, c.requires.1))
+    (omega (arith, (turn-less left parts c.if-inside.true came c.loop-left-test.true).0), (turn-rows left parts c.if-inside.true came c.requires.0.1.1, c.requires.1))
 
 pub loop-left-smaller-then-shorter-ge20 : goal.loop-left-smaller-then-shorter-ge20
 loop-left-smaller-then-shorter-ge20 t c =
     let left = c.loop-left.invariant c.requires.0.0 c.requires.0.1.0 in
     let parts = c.split-parts.ensures left.block left.rows in
-    (turn-less left parts c.if-inside.true c.if-rest-inside.branch c.loop-left-test.true).1
+    let came : Came (Unit {0}) (Unit {0}) c.split-parts.result c.if-rest-inside.left c.if-rest-inside.shorter =
+        elim c.if-rest-inside.branch [ then-rest-inside w ↦ inl (tt, w.left-is, w.shorter-is) | else-rest-inside w ↦ inr (tt, w.left-is, w.shorter-is) ] in
+    (turn-less left parts c.if-inside.true came c.loop-left-test.true).1
 
 pub loop-left-preserved-then-shorter-ge20 : goal.loop-left-preserved-then-shorter-ge20
 loop-left-preserved-then-shorter-ge20 t c =
     λ b h.
     let left = c.loop-left.invariant b h in
     let parts = c.split-parts.ensures left.block left.rows in
-    turn-left left parts c.if-inside.true c.if-rest-inside.branch _ c.walk-most.ensures
+    let came : Came (Unit {0}) (Unit {0}) c.split-parts.result c.if-rest-inside.left c.if-rest-inside.shorter =
+        elim c.if-rest-inside.branch [ then-rest-inside w ↦ inl (tt, w.left-is, w.shorter-is) | else-rest-inside w ↦ inr (tt, w.left-is, w.shorter-is) ] in
+    turn-left left parts c.if-inside.true came _ c.walk-most.ensures
 
 pub loop-left-smaller-else-shorter-ge20 : goal.loop-left-smaller-else-shorter-ge20
 loop-left-smaller-else-shorter-ge20 t c =
     let left = c.loop-left.invariant c.requires.0.0 c.requires.0.1.0 in
     let parts = c.split-parts.ensures left.block left.rows in
-    (turn-less left parts c.if-inside.true c.if-rest-inside.branch c.loop-left-test.true).1
+    let came : Came (Unit {0}) (Unit {0}) c.split-parts.result c.if-rest-inside.left c.if-rest-inside.shorter =
+        elim c.if-rest-inside.branch [ then-rest-inside w ↦ inl (tt, w.left-is, w.shorter-is) | else-rest-inside w ↦ inr (tt, w.left-is, w.shorter-is) ] in
+    (turn-less left parts c.if-inside.true came c.loop-left-test.true).1
 
 pub loop-left-preserved-else-shorter-ge20 : goal.loop-left-preserved-else-shorter-ge20
 loop-left-preserved-else-shorter-ge20 t c =
     λ b h.
     let left = c.loop-left.invariant b h in
     let parts = c.split-parts.ensures left.block left.rows in
-    turn-short left parts c.if-inside.true c.if-rest-inside.branch c.if-shorter-ge20.false
+    let came : Came (Unit {0}) (Unit {0}) c.split-parts.result c.if-rest-inside.left c.if-rest-inside.shorter =
+        elim c.if-rest-inside.branch [ then-rest-inside w ↦ inl (tt, w.left-is, w.shorter-is) | else-rest-inside w ↦ inr (tt, w.left-is, w.shorter-is) ] in
+    turn-short left parts c.if-inside.true came c.if-shorter-ge20.false
 
 pub loop-left-smaller : goal.loop-left-smaller
 loop-left-smaller t c =
