@@ -9,7 +9,6 @@ use Rattle.buffer.specs.LittleEndian.{Bytes}
 use Rattle.record.specs.Answers.{check_program}
 use Rattle.record.specs.declared.Header.{Header}
 use Rattle.record.specs.Header.{contents_at, header_in, largest_of}
-use Rattle.record.specs.Holding.{ProgramWithStore}
 use Rattle.record.specs.Rows.{first_row}
 use Rattle.record.proofs.LentRowLaws.{lent-held, lent-record, lent-store, lent-values, lent-whole}
 use Rattle.rules.specs.Literals.{small_values}
@@ -19,7 +18,7 @@ use Rattle.run.specs.declared.RunEnd.{RunEnd}
 use Rattle.run.specs.Represents.{as_run_answer}
 use Rattle.run.specs.RunAnswer.{refusal}
 use Rattle.stepper.specs.RunStepper.{StepperCall, run_stepper, stepper_rows}
-use Rattle.stepper.specs.Running.{Gives, accepted_run}
+use Rattle.stepper.specs.Running.{Accepted, Gives, accepted_run}
 use Rattle.stepper.proofs.RunStepperLaws.{stepper-is, stepper-refused}
 
 -- A REFUSAL is by the first row that applies, and nothing has changed
@@ -52,10 +51,12 @@ module _ (buf : List ℕ) (used : ℕ) (store : List ℕ) (budget n k : ℕ) (ch
       refuses-values t = refuses buf used store budget 16 (lent-values buf used store n k checked [] z bytes count hd e largest limits above tells t) (λ e. omega arith)
 
       -- none
-      pub accepts : above ≡ false → (P : Block) × ProgramWithStore hd P buf used store
-      accepts = lent-held buf used store n k checked [] z bytes count hd e largest limits above tells
+      pub accepts : above ≡ false → (P : Block) × Accepted hd P buf used store
+      accepts f =
+          let held = lent-held buf used store n k checked [] z bytes count hd e largest limits above tells f in
+          (held.0, record { holds = held.1.holds; short = held.1.short; count = held.1.count; values = held.1.values })
 
-pub accepted-gives : (hd : Header) (P : Block) (buf : List ℕ) (used : ℕ) (store : List ℕ) (budget : ℕ) → ProgramWithStore hd P buf used store
+pub accepted-gives : (hd : Header) (P : Block) (buf : List ℕ) (used : ℕ) (store : List ℕ) (budget : ℕ) → Accepted hd P buf used store
     → (r : RunEnd) (buf₁ store₁ : List ℕ) → Gives r buf₁ store₁ (accepted_run hd P (length buf) store budget) → Gives r buf₁ store₁ (run_stepper buf used store budget)
 accepted-gives hd P buf used store budget h r buf₁ store₁ =
     subst (Gives r buf₁ store₁) (sym (stepper-is h.holds h.short store h.count h.values budget))

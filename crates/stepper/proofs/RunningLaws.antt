@@ -10,7 +10,7 @@ use Rattle.buffer.specs.Slice.{put, zeros}
 use Rattle.record.specs.Answers.{padded}
 use Rattle.record.specs.declared.Header.{Header}
 use Rattle.record.specs.Header.{contents_at, encode_program, largest_of, ok_of}
-use Rattle.record.specs.Holding.{ProgramIn, ProgramWithStore}
+use Rattle.record.specs.Holding.{ProgramIn}
 use Rattle.record.proofs.PaddedLaws.{cleared-padded, length-padded}
 use Rattle.record.proofs.HoldingLaws.{padded-program, program-size}
 use Rattle.rules.specs.Rules.{at}
@@ -35,11 +35,11 @@ use Rattle.stepping.specs.Perform.{Performed, Ready}
 use Rattle.stepping.specs.State.{Stands, config_bytes}
 use Rattle.stepping.proofs.PerformLaws.{plan-sums}
 use Rattle.stepper.specs.RunStepper.{stepped_to, steps}
-use Rattle.stepper.specs.Running.{Gives}
+use Rattle.stepper.specs.Running.{Accepted, Gives}
 
 -- THE START: zeros behind the record, and the configuration stands
 
-pub accepted-stands : {hd : Header} {P : Block} {buf : List ℕ} {used : ℕ} {store : List ℕ} → ProgramWithStore hd P buf used store → (l : List ℕ) → l ≡ put buf used (zeros (length buf - used))
+pub accepted-stands : {hd : Header} {P : Block} {buf : List ℕ} {used : ℕ} {store : List ℕ} → Accepted hd P buf used store → (l : List ℕ) → l ≡ put buf used (zeros (length buf - used))
     → Stands hd (at P store) l used
 accepted-stands {hd} {P} {buf} {used} {store} h l e =
     let bytes : List ℕ = encode_program hd P in

@@ -3,10 +3,9 @@
 
 ghost use Rattle.std.specs.Prelude.{◌≡◌, length};
 ghost use Rattle.rules.specs.Syntax.{Block};
-ghost use Rattle.record.specs.Holding.{ProgramWithStore};
 ghost use Rattle.run.specs.Represents.{as_run_answer};
 ghost use Rattle.stepper.specs.RunStepper.{run_stepper};
-ghost use Rattle.stepper.specs.Running.{Gives, accepted_run};
+ghost use Rattle.stepper.specs.Running.{Accepted, Gives, accepted_run};
 
 use checker::some_above;
 use command::look;
@@ -26,8 +25,8 @@ pub fn run_accepted(
     store: &mut [u32],
     budget: u32,
 ) -> RunEnd
-    requires { (P : Block) × ProgramWithStore h P buf.old used store.old }
-    ensures { (P : Block) → ProgramWithStore h P buf.old used store.old → Gives result buf.new store.new (accepted_run h P (length buf.old) store.old budget) }
+    requires { (P : Block) × Accepted h P buf.old used store.old }
+    ensures { (P : Block) → Accepted h P buf.old used store.old → Gives result buf.new store.new (accepted_run h P (length buf.old) store.old budget) }
 {
     let contents = h.contents_at();
     let largest = h.largest();
