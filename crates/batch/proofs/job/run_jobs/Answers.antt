@@ -90,7 +90,7 @@ run_job-requires c =
     let g = c.requires.0.1 in
     let a = c.args in
     let from = c.loop-i.i * a.h.k in
-    ((c.requires.0.0, record { holds = g.holds; fits = omega (arith, g.fits, c.loop-i.invariant.1); low = omega (arith, g.low, c.loop-i.invariant.1) }), omega (arith, c.run_job-arg-in-loop-i-1.given.2), small-take (ok_of a.h) (from + a.h.k - from) (drop from a.values.now) (small-drop (ok_of a.h) from a.values.now c.requires.3), omega (arith, c.run_job-arg-in-loop-i-2-1.given.2))
+    ((c.requires.0.0, record { holds = g.holds; fits = omega (arith, g.fits, c.loop-i.invariant.1); low = omega (arith, g.low, c.loop-i.invariant.1) }), omega arith, small-take (ok_of a.h) (from + a.h.k - from) (drop from a.values.now) (small-drop (ok_of a.h) from a.values.now c.requires.3), omega arith)
 
 pub loop-i-preserved : goal.loop-i-preserved
 loop-i-preserved c =

@@ -18,7 +18,7 @@ pub check_state-right-requires : goal.check_state-right-requires
 check_state-right-requires c =
     let start = c.contents_at.result + 4 in
     let at = ap (λ (m : ℕ). m + 4) c.contents_at.ensures in
-    ((c.requires.0.0, (lent-stands c.requires.0.1 c.requires.1 start at, lent-ends c.requires.0.1 c.requires.1 start at)), c.requires.1, c.requires.0.1.within, c.check_state-arg-1.given.0)
+    ((c.requires.0.0, (lent-stands c.requires.0.1 c.requires.1 start at, lent-ends c.requires.0.1 c.requires.1 start at)), c.requires.1, c.requires.0.1.within, omega arith)
 
 pub returns : goal.returns
 returns c =

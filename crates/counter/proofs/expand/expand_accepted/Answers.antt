@@ -28,21 +28,21 @@ pub overflow_add-total : goal.overflow_add-total
 overflow_add-total c =
     let start_is = ap (λ (m : ℕ). m + 4) c.contents_at-start.ensures in
     let size_is = c.expansion_size-size.ensures.0 c.requires.0.1 c.requires.0.2 (given c.requires.0.3 (c.contents_at-start.result + 4) start_is) in
-    omega (arith, roomy c.requires.0.3 c.args.out.now c.requires.1 (c.contents_at-start.result + 4) c.expansion_size-size.result start_is size_is c.fits2.result c.fits2.ensures c.if-fits.true, c.requires.1)
+    omega (arith, roomy c.requires.0.3 c.args.out.now c.requires.1 (c.contents_at-start.result + 4) c.expansion_size-size.result start_is size_is c.fits.result c.fits.ensures c.if-fits.true, c.requires.1)
 
 -- src/expand.rt:74:9
 pub write_record-requires : goal.write_record-requires
 write_record-requires c =
     let start_is = ap (λ (m : ℕ). m + 4) c.contents_at-start.ensures in
     let size_is = c.expansion_size-size.ensures.0 c.requires.0.1 c.requires.0.2 (given c.requires.0.3 (c.contents_at-start.result + 4) start_is) in
-    ((c.requires.0.0, c.requires.0.1, c.requires.0.2, c.requires.0.3, total-is c.requires.0.3 (c.contents_at-start.result + 4) c.expansion_size-size.result start_is size_is), roomy c.requires.0.3 c.args.out.now c.requires.1 (c.contents_at-start.result + 4) c.expansion_size-size.result start_is size_is c.fits2.result c.fits2.ensures c.if-fits.true, c.requires.1)
+    ((c.requires.0.0, c.requires.0.1, c.requires.0.2, c.requires.0.3, total-is c.requires.0.3 (c.contents_at-start.result + 4) c.expansion_size-size.result start_is size_is), roomy c.requires.0.3 c.args.out.now c.requires.1 (c.contents_at-start.result + 4) c.expansion_size-size.result start_is size_is c.fits.result c.fits.ensures c.if-fits.true, c.requires.1)
 
 -- src/expand.rt:75:9
 pub wrote-requires : goal.wrote-requires
 wrote-requires c =
     let start_is = ap (λ (m : ℕ). m + 4) c.contents_at-start.ensures in
     let size_is = c.expansion_size-size.ensures.0 c.requires.0.1 c.requires.0.2 (given c.requires.0.3 (c.contents_at-start.result + 4) start_is) in
-    omega (arith, roomy c.requires.0.3 c.args.out.now c.requires.1 (c.contents_at-start.result + 4) c.expansion_size-size.result start_is size_is c.fits2.result c.fits2.ensures c.if-fits.true, c.requires.1)
+    omega (arith, roomy c.requires.0.3 c.args.out.now c.requires.1 (c.contents_at-start.result + 4) c.expansion_size-size.result start_is size_is c.fits.result c.fits.ensures c.if-fits.true, c.requires.1)
 
 -- src/expand.rt:75:9
 pub returns-then-fits : goal.returns-then-fits
@@ -50,7 +50,7 @@ returns-then-fits c =
     λ store P s a.
     let start_is = ap (λ (m : ℕ). m + 4) c.contents_at-start.ensures in
     let size_is = c.expansion_size-size.ensures.0 P s (given a (c.contents_at-start.result + 4) start_is) in
-    answers c.wrote.ensures (gives-record a c.args.out.now c.requires.1 (c.contents_at-start.result + 4) c.expansion_size-size.result start_is size_is c.fits2.result c.fits2.ensures c.if-fits.true _ (c.write_record.ensures store P s a (total-is a (c.contents_at-start.result + 4) c.expansion_size-size.result start_is size_is)))
+    answers c.wrote.ensures (gives-record a c.args.out.now c.requires.1 (c.contents_at-start.result + 4) c.expansion_size-size.result start_is size_is c.fits.result c.fits.ensures c.if-fits.true _ (c.write_record.ensures store P s a (total-is a (c.contents_at-start.result + 4) c.expansion_size-size.result start_is size_is)))
 
 -- src/expand.rt:60:1
 pub returns : goal.returns
@@ -58,4 +58,4 @@ returns c =
     λ store P s a.
     let start_is = ap (λ (m : ℕ). m + 4) c.contents_at-start.ensures in
     let size_is = c.expansion_size-size.ensures.0 P s (given a (c.contents_at-start.result + 4) start_is) in
-    answers c.refused.ensures (gives-ten a c.args.out.now c.requires.1 (c.contents_at-start.result + 4) c.expansion_size-size.result start_is size_is c.fits2.result c.fits2.ensures c.if-fits.false)
+    answers c.refused.ensures (gives-ten a c.args.out.now c.requires.1 (c.contents_at-start.result + 4) c.expansion_size-size.result start_is size_is c.fits.result c.fits.ensures c.if-fits.false)
