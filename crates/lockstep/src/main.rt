@@ -1,5 +1,5 @@
 // The program: reads standard input to its end and prints the line that `report` makes of it.
-#![tactic(auto)]
+#![tactic(auto, unfolding(report::specs::Line::program_buffer))]
 
 ghost use Rattle.std.specs.Prelude.{◌≡◌, ◌≤◌, IfOk, length};
 ghost use Rattle.report.specs.Line.{program_buffer};
