@@ -10,7 +10,6 @@ use lib.ListN.{length}
 use native.Mathlib.Omega.{arith}
 use Rattle.buffer.specs.LittleEndian.{Bytes, le, val}
 use Rattle.buffer.proofs.LittleEndianLaws.{le_val, length-le, val-le, val-lt}
-use Rattle.record.specs.Program.{encode_block}
 use Rattle.record.specs.Reading.{Got, RecordParts, any_record, any_record_of, at_end, bind, encode_leaf, fail, from_some, got, leaf, leaf_of, of_kind, pick, sub, sub_of, then, word}
 use Rattle.record.specs.Record.{Split, bad, encode_record, end, part, split}
 use Rattle.record.proofs.RecordLaws.{length-encode_record, split-encode_record, split-length, split-parted}

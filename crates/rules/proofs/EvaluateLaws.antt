@@ -12,7 +12,6 @@ use Rattle.rules.specs.Run.{is_finished, iterate, or_stop, outcome_of, run}
 use Rattle.rules.specs.Step.{bound_value, step, step_assign, step_block, step_inside, unroll_loop}
 use Rattle.rules.specs.Store.{lookup, minus_one, no_limit, update}
 use Rattle.rules.specs.Syntax.{Answer, Block, Bound, Config, Expr, assign, dec, empty, finished, inc, lit, loop, nest, next, over, upto, var}
-use Rattle.rules.specs.Translation.{all}
 use Rattle.rules.proofs.IterateLaws.{iterate-first, iterate-further}
 use Rattle.rules.proofs.OverLaws.{step-no_limit}
 use Rattle.rules.proofs.RulesLaws.{rules-step, step-rules}

@@ -9,7 +9,6 @@ use mathlib.Core.Option.{some-injective, some}
 use native.Mathlib.Nat.{suc-add, zero-add}
 use native.Mathlib.Omega.{arith}
 use Rattle.rules.specs.Run.{Further, Ran, go_on, iterate, one_more, or_stop, outcome_of, run, run_on, stop}
-use Rattle.rules.specs.Step.{step}
 use Rattle.rules.specs.Syntax.{Answer, finished, next, over}
 use Rattle.rules.proofs.IterateLaws.{iterate-first}
 use Rattle.rules.proofs.Tests.{true-false}

@@ -1,5 +1,4 @@
 -- The sum of two bytes is the number that the part stands for, by one val-part for each byte.
-use borrow.Author.Rules.{rules}
 use Prim.Native.Nat.{◌+◌}
 use native.Mathlib.Omega.{arith}
 use Rattle.buffer.proofs.SliceLaws.{val-part, val-part-zero}

@@ -1,5 +1,4 @@
 -- Two stores in a row are one put of the number's bytes.
-use borrow.Author.Rules.{rules}
 use native.Mathlib.Omega.{arith}
 use native.Mathlib.Numerals.{add-one}
 use lib.ListN.{length-set}

@@ -1,5 +1,4 @@
 -- Four stores in a row. The code divides once for each byte and le step by step, so the quotients are brought together.
-use borrow.Author.Rules.{rules}
 use Prim.Native.Nat.{ℕ, suc, ◌+◌, ◌/◌, ◌%◌}
 use mathlib.Core.Path.{◌≡◌}
 use mathlib.Core.List.{List, [], ◌∷◌}

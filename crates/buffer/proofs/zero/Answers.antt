@@ -1,10 +1,8 @@
 -- After i turns i zeros were put.
-use Prim.Native.Nat.{◌-◌, ◌≤◌}
 use mathlib.Core.Path.{◌≡◌, refl, sym}
 use native.Mathlib.Omega.{arith}
-use borrow.Author.Rules.{rules}
-use lib.ListN.{length, length-set}
-use Rattle.buffer.specs.Slice.{put, zeros}
+use lib.ListN.{length-set}
+use Rattle.buffer.specs.Slice.{zeros}
 use Rattle.buffer.proofs.SliceLaws.{put-nil, zeroed-next}
 use Rattle.buffer.proofs.zero.Goals as goal
 

@@ -1,10 +1,8 @@
 -- After i turns the first i bytes stand at their place.
-use Prim.Native.Nat.{◌-◌, ◌≤◌}
 use mathlib.Core.Path.{◌≡◌, refl, sym}
 use native.Mathlib.Omega.{arith}
-use borrow.Author.Rules.{rules}
-use lib.ListN.{length, length-set}
-use Rattle.buffer.specs.Slice.{put, part}
+use lib.ListN.{length-set}
+use Rattle.buffer.specs.Slice.{part}
 use Rattle.buffer.proofs.SliceLaws.{put-nil, copied_next}
 use Rattle.moves.proofs.copy_bytes.Goals as goal
 

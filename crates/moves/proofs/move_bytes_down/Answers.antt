@@ -1,10 +1,8 @@
 -- After i turns the first i bytes stand at their place. What is still to be read lies behind all that was written.
-use Prim.Native.Nat.{◌-◌, ◌≤◌}
 use mathlib.Core.Path.{◌≡◌, refl, sym}
 use native.Mathlib.Omega.{arith}
-use borrow.Author.Rules.{rules}
-use lib.ListN.{length, length-set}
-use Rattle.buffer.specs.Slice.{put, part}
+use lib.ListN.{length-set}
+use Rattle.buffer.specs.Slice.{part}
 use Rattle.buffer.proofs.SliceLaws.{put-nil, moved-down-next}
 use Rattle.moves.proofs.move_bytes_down.Goals as goal
 

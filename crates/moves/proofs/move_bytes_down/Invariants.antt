@@ -1,11 +1,8 @@
 -- After i turns the first i bytes stand at their place. What is still to be read lies behind all that was written.
 use Prim.Native.Nat.{◌-◌, ◌≤◌}
-use mathlib.Core.Path.{◌≡◌, refl, sym}
-use native.Mathlib.Omega.{arith}
-use borrow.Author.Rules.{rules}
-use lib.ListN.{length, length-set}
+use mathlib.Core.Path.{◌≡◌}
+use lib.ListN.{length}
 use Rattle.buffer.specs.Slice.{put, part}
-use Rattle.buffer.proofs.SliceLaws.{put-nil, moved-down-next}
 use Rattle.moves.proofs.move_bytes_down.Given as goal
 
 abbrev pub invariant-loop-i : goal.invariant-loop-i

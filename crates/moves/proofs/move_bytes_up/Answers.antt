@@ -1,11 +1,10 @@
 -- The bytes from index left on stand at their place. What is still to be read lies before all that was written.
-use Prim.Native.Nat.{◌+◌, ◌-◌, ◌≤◌}
+use Prim.Native.Nat.{◌+◌, ◌-◌}
 use mathlib.Core.Path.{◌≡◌, refl, sym}
 use native.Mathlib.Omega.{arith}
 use native.Mathlib.Nat.{add-zero, sub-zero}
-use borrow.Author.Rules.{rules}
-use lib.ListN.{length, length-set}
-use Rattle.buffer.specs.Slice.{put, part}
+use lib.ListN.{length-set}
+use Rattle.buffer.specs.Slice.{part}
 use Rattle.buffer.proofs.SliceLaws.{put-nil, moved-up-next}
 use Rattle.moves.proofs.move_bytes_up.Goals as goal
 

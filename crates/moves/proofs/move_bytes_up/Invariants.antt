@@ -1,12 +1,8 @@
 -- The bytes from index left on stand at their place. What is still to be read lies before all that was written.
 use Prim.Native.Nat.{◌+◌, ◌-◌, ◌≤◌}
-use mathlib.Core.Path.{◌≡◌, refl, sym}
-use native.Mathlib.Omega.{arith}
-use native.Mathlib.Nat.{add-zero, sub-zero}
-use borrow.Author.Rules.{rules}
-use lib.ListN.{length, length-set}
+use mathlib.Core.Path.{◌≡◌}
+use lib.ListN.{length}
 use Rattle.buffer.specs.Slice.{put, part}
-use Rattle.buffer.proofs.SliceLaws.{put-nil, moved-up-next}
 use Rattle.moves.proofs.move_bytes_up.Given as goal
 
 abbrev pub invariant-loop-left : goal.invariant-loop-left

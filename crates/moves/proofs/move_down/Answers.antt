@@ -1,5 +1,4 @@
 -- Two moves of neighbouring bytes are one.
-use borrow.Author.Rules.{rules}
 use Prim.Native.Nat.{◌-◌}
 use native.Mathlib.Omega.{arith}
 use Rattle.buffer.proofs.SliceLaws.{moved-down-twice}

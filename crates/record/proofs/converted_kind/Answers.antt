@@ -1,4 +1,3 @@
-use borrow.Author.Rules.{rules}
 use mathlib.Core.Path.{ap, ◌∙◌}
 use Rattle.record.specs.Header.{kind_of}
 use Rattle.record.proofs.EditionLaws.{kind-converted}

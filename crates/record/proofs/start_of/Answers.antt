@@ -1,4 +1,3 @@
-use borrow.Author.Rules.{rules}
 use mathlib.Core.Path.{sym}
 use Rattle.record.specs.Header.{header_in}
 use Rattle.record.proofs.HeaderLaws.{as_first, as-second, first-start, second-start}

@@ -1,5 +1,4 @@
 -- Each arm knows its case, and there the definition computes.
-use borrow.Author.Rules.{rules}
 use Rattle.run.specs.Tally.{ends_with}
 use Rattle.run.proofs.ends.Goals as goal
 

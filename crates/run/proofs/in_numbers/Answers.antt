@@ -1,5 +1,4 @@
 -- The outcome's number is the only field that is worked out.
-use borrow.Author.Rules.{rules}
 use Rattle.run.proofs.in_numbers.Goals as goal
 
 pub returns : goal.returns

@@ -1,5 +1,4 @@
 -- Each arm knows its case, and there both definitions compute.
-use borrow.Author.Rules.{rules}
 use Rattle.run.specs.RunAnswer.{outcome_number}
 use Rattle.run.proofs.outcome_number.Goals as goal
 

@@ -1,4 +1,3 @@
-use borrow.Author.Rules.{rules}
 use mathlib.Core.Path.{sym}
 use Rattle.record.proofs.HeaderLaws.{first-start, second-start}
 use Rattle.record.proofs.Header.contents_at.Goals as goal

@@ -1,4 +1,3 @@
-use borrow.Author.Rules.{rules}
 use mathlib.Core.Path.{ap, sym}
 use Rattle.record.specs.declared.Conversion.{Conversion}
 use Rattle.record.specs.Header.{converted_header}

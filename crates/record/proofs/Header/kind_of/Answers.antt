@@ -1,4 +1,3 @@
-use borrow.Author.Rules.{rules}
 use mathlib.Core.Path.{ap₂, sym}
 use Rattle.record.specs.declared.Sort.{Sort}
 use Rattle.record.specs.declared.Edition.{Edition}

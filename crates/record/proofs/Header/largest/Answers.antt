@@ -1,4 +1,3 @@
-use borrow.Author.Rules.{rules}
 use mathlib.Core.Path.{ap, sym}
 use Rattle.record.specs.declared.Edition.{Edition}
 use Rattle.record.specs.Header.{form_of, largest_of}

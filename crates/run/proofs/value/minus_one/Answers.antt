@@ -1,4 +1,3 @@
-use borrow.Author.Rules.{rules}
 use native.Mathlib.Omega.{arith}
 use Rattle.run.proofs.MinusOneLaws.{minus-one-by-quotient}
 use Rattle.run.proofs.value.minus_one.Goals as goal

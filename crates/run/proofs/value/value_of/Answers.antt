@@ -1,4 +1,3 @@
-use borrow.Author.Rules.{rules}
 use Rattle.rules.proofs.StoreLaws.{lookup-index}
 use Rattle.run.proofs.value.value_of.Goals as goal
 
