@@ -11,8 +11,6 @@ use Rattle.conversion.proofs.ConvertLaws.{convert-number, convert-refused}
 use Rattle.counting.specs.CountingCall.{counting_rows, expand_rows}
 use Rattle.counting.proofs.CountingRanLaws.{counting-number, counting-refused}
 use Rattle.counting.proofs.ExpandCallLaws.{expand-number, expand-refused}
-use Rattle.forecast.specs.Forecast.{forecast_rows}
-use Rattle.forecast.proofs.ForecastLaws.{forecast-number, forecast-refused}
 use Rattle.record.specs.Answers.{check_program_rows, check_term_rows}
 use Rattle.record.specs.declared.Conversion.{Conversion}
 use Rattle.record.specs.declared.Conversion.TheVariants.{ToFirst, ToSecond}
@@ -59,7 +57,6 @@ demand1 = record {
   batch_number = λ program used term work budgets values answers.
       numbers (batch_rows program used term work budgets values answers) _ refl refl (batch-number program used term work budgets values answers);
   convert_number = convert-numbers;
-  forecast_number = λ buf used store. numbers (forecast_rows buf used store) _ refl refl (forecast-number buf used store);
   check_program_refused = check-program-refused;
   check_term_refused = check-term-refused;
   translate_refused = translate-refused;
@@ -73,5 +70,4 @@ demand1 = record {
   expand_refused = expand-refused;
   batch_refused = batch-refused;
   convert_refused = convert-refused;
-  forecast_refused = forecast-refused;
 }

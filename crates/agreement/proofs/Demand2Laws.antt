@@ -9,7 +9,6 @@ use Rattle.record.specs.Header.{largest_of, ok_of}
 use Rattle.stepper.specs.RunStepper.{steps}
 use Rattle.batch.proofs.BatchMeaningLaws.{batch-means}
 use Rattle.conversion.proofs.ConversionMeaningLaws.{conversion-means}
-use Rattle.forecast.proofs.ForecastMeaningLaws.{forecast-means}
 use Rattle.counting.proofs.CountingMeaningLaws.{counting-means}
 use Rattle.record.proofs.HoldingLaws.{check-program, check-term}
 use Rattle.record.proofs.RowMeaningLaws.{rows-mean}
@@ -50,7 +49,6 @@ demand2 = record {
   counting_means = counting-means;
   batch_means = batch-means;
   conversion_means = conversion-means;
-  forecast_means = forecast-means;
   checks_program = check-program;
   checks_term = check-term;
   runs_stepper = λ hd P buf used store budget h l e hs. stepper-ran h l store e hs budget;

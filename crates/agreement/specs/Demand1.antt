@@ -4,7 +4,6 @@ use Rattle.std.specs.Prelude.{ℕ, ◌≡◌, ◌↔◌, ◌⊎◌, true, List, 
 use Rattle.batch.specs.RunBatch.{batch_rows, run_batch}
 use Rattle.conversion.specs.Convert.{convert_call, convert_rows}
 use Rattle.counting.specs.CountingCall.{counting_rows, expand_call, expand_rows, run_counting}
-use Rattle.forecast.specs.Forecast.{forecast_call, forecast_rows}
 use Rattle.record.specs.Answers.{check_program, check_program_rows, check_term, check_term_rows}
 use Rattle.record.specs.declared.Conversion.{Conversion}
 use Rattle.record.specs.declared.Conversion.TheVariants.{ToFirst, ToSecond}
@@ -37,7 +36,7 @@ pub record Numbers (places : List Place) (rows : List Row) (n : ℕ) : Type 0 wh
   pub none : (n ≡ 0) ↔ NoRow rows
   pub first : First rows n
 
--- The demand, of each of the seventeen calls and whatever is lent. The four conversions are one definition, of both sorts and directions.
+-- The demand, of each of the sixteen calls and whatever is lent. The four conversions are one definition, of both sorts and directions.
 pub record Demand1 : Type 0 where
   -- every call gives the first row of its own that applies
   pub check_program_number : (buf : List ℕ) (used : ℕ) → Numbers (of_record []) (check_program_rows buf used) (check_program buf used).number
@@ -63,8 +62,6 @@ pub record Demand1 : Type 0 where
       → Numbers (of_record (table.batch ∷ table.store ∷ table.read_store ∷ [])) (batch_rows program used term work budgets values answers) (run_batch program used term work budgets values answers).number
   pub convert_number : (s : Sort) (to : Conversion) (src : List ℕ) (used : ℕ) (out : List ℕ)
       → Numbers (of_conversion to) (convert_rows s to src used out) (convert_call s to src used out).number
-  pub forecast_number : (buf : List ℕ) (used : ℕ) (store : List ℕ)
-      → Numbers (of_record (table.store ∷ table.read_store ∷ table.forecast ∷ [])) (forecast_rows buf used store) (forecast_call buf used store).number
   -- a refusal gives its number and 0 for everything else, and leaves every slice as it came
   pub check_program_refused : (buf : List ℕ) (used : ℕ) → (first_row (check_program_rows buf used) ≡ 0 → ⊥)
       → check_program buf used ≡ record { number = first_row (check_program_rows buf used); k = 0 }
@@ -93,5 +90,3 @@ pub record Demand1 : Type 0 where
       ≡ record { number = first_row (batch_rows program used term work budgets values answers); used = 0; term = term; work = work; answers = answers }
   pub convert_refused : (s : Sort) (to : Conversion) (src : List ℕ) (used : ℕ) (out : List ℕ) → (first_row (convert_rows s to src used out) ≡ 0 → ⊥)
       → convert_call s to src used out ≡ record { number = first_row (convert_rows s to src used out); used = 0; written = out }
-  pub forecast_refused : (buf : List ℕ) (used : ℕ) (store : List ℕ) → (first_row (forecast_rows buf used store) ≡ 0 → ⊥)
-      → forecast_call buf used store ≡ record { number = first_row (forecast_rows buf used store); steps = 0; program_bytes = 0; term_bytes = 0 }

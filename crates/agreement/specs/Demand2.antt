@@ -6,7 +6,6 @@ use Rattle.buffer.specs.LittleEndian.{Bytes}
 use Rattle.batch.specs.BatchMeaning.{BatchMeans}
 use Rattle.conversion.specs.ConversionMeaning.{ConversionMeans}
 use Rattle.counting.specs.CountingMeaning.{CountingMeans}
-use Rattle.forecast.specs.ForecastMeaning.{ForecastMeans}
 use Rattle.record.specs.Answers.{check_program, check_term}
 use Rattle.record.specs.declared.Header.{Header}
 use Rattle.record.specs.Header.{largest_of, ok_of}
@@ -28,8 +27,7 @@ use Rattle.stepper.specs.StepperRan.{StepperRan}
 use Rattle.term.specs.CallMeaning.{CallsMean}
 use Rattle.weighing.specs.WeighMeaning.{WeighMeans}
 
--- The demand, in eight parts: the rules, the rows and the other calls, the counting stepper, the batch, the conversions, the forecast, the checks,
--- the runs.
+-- The demand, in seven parts: the rules, the rows and the other calls, the counting stepper, the batch, the conversions, the checks, the runs.
 pub record Demand2 : Type 0 where
   -- THE RULES: a step, and a reduction of a closed term, is one of the paper's; over is a value that the rule works out and
   -- that is too large; finished is the empty block, and the tuple
@@ -56,8 +54,6 @@ pub record Demand2 : Type 0 where
   pub batch_means : BatchMeans
   -- THE CONVERSIONS (02 C-18): what they write, there and back, and of a translation
   pub conversion_means : ConversionMeans
-  -- THE FORECAST (02 C-19): its rows, and that its figures are those of a run with no largest value and no limit on buffers
-  pub forecast_means : ForecastMeans
   -- CHECK: 0 and k exactly where the bytes are the record of a program, of a term, in a buffer that is not too long
   pub checks_program : (k : ℕ) (buf : List ℕ) (used : ℕ) → Bytes buf
       → (check_program buf used ≡ record { number = 0; k = k }) ↔ ((length buf ≤ 16384) × ((h : Header) × (P : Block) × (h.k ≡ k) × ProgramIn h P buf used))

@@ -14,7 +14,7 @@ use Rattle.record.specs.Holding.{ProgramIn}
 use Rattle.record.specs.Rows.{bad_buffer, block_of, first_row, header_of, k_of, program_of, row, store_rows}
 use Rattle.record.proofs.HeldLaws.{good-store, good-values, store-good, values-good}
 use Rattle.record.proofs.HoldingLaws.{program-block, program-first, program-header, program-is, program-k, program-passed}
-use Rattle.record.proofs.RowLaws.{first-applies, first-none, first-skips, holds-some, none_first, or-intro}
+use Rattle.record.proofs.RowLaws.{first-applies, first-skips, holds-some, none_at-zero, none_first, or-intro}
 use Rattle.rules.specs.Sound.{SmallValues}
 use Rattle.rules.specs.Syntax.{Block}
 use Rattle.forecast.specs.Figures.{Figures, figures, longest_of, program_weights, steps_of, term_weights}
@@ -89,7 +89,7 @@ pub record ForecastTakes (hd : Header) (P : Block) (buf : List ℕ) (used n : �
 module _ {hd : Header} {P : Block} {buf : List ℕ} {used : ℕ} (h : ProgramIn hd P buf used) where
   pub forecast-takes : (n : ℕ) (store : List ℕ) → first_row (forecast_rows buf n store) ≡ 0 → ForecastTakes hd P buf used n store
   forecast-takes n store e =
-      let p = program-passed h n (bad_buffer buf n) (λ q. q) (store_rows buf n store (figure_rows buf n store)) (first-none (forecast_rows buf n store) refl e) in
+      let p = program-passed h n (bad_buffer buf n) (λ q. q) (store_rows buf n store (figure_rows buf n store)) (none_at-zero (forecast_rows buf n store) refl e) in
       record {
         low = p.low;
         same = p.same;

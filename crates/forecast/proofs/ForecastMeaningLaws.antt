@@ -14,7 +14,7 @@ use Rattle.record.specs.declared.Header.{Header}
 use Rattle.record.specs.Holding.{ProgramIn}
 use Rattle.record.specs.Rows.{block_of, first_row, header_of, program_of, store_rows}
 use Rattle.record.proofs.HoldingLaws.{passes-program, program-block, program-header, program-is}
-use Rattle.record.proofs.RowLaws.{first-none, none-split}
+use Rattle.record.proofs.RowLaws.{none-split, none_at-zero}
 use Rattle.record.proofs.RowMeaningLaws.{ltb_iff, or-iff}
 use Rattle.rules.specs.Evaluate.{evaluate}
 use Rattle.rules.specs.Reduction.{reduce}
@@ -182,7 +182,7 @@ module _ (h : Header) (P : Block) (buf : List ℕ) (used : ℕ) (μ : List ℕ) 
 
 takes-accepted : (buf : List ℕ) (used : ℕ) (μ : List ℕ) → Bytes buf → (forecast_call buf used μ).number ≡ 0 → (h : Header) × (P : Block) × Accepted h P buf used μ
 takes-accepted buf used μ bytes z =
-    let rows = first-none (forecast_rows buf used μ) refl (sym (forecast-number buf used μ) ∙ z) in
+    let rows = none_at-zero (forecast_rows buf used μ) refl (sym (forecast-number buf used μ) ∙ z) in
     let p = passes-program buf used bytes (none-split (check_program_rows buf used) (store_rows buf used μ (figure_rows buf used μ)) rows).0 in
     (header_of buf used, p.0, accepts (header_of buf used) p.0 buf used μ p.1 z)
 

@@ -25,7 +25,7 @@ use Rattle.record.specs.Header.{encode_program, encode_term, ok_of}
 use Rattle.record.specs.Holding.{ProgramIn}
 use Rattle.record.proofs.HeldLaws.{good-buffer}
 use Rattle.record.proofs.HoldingLaws.{term-words}
-use Rattle.record.proofs.RowLaws.{first-none}
+use Rattle.record.proofs.RowLaws.{none_at-zero}
 use Rattle.rules.specs.Reduction.{reduce}
 use Rattle.rules.specs.Rules.{at}
 use Rattle.rules.specs.Run.{iterate, no_room}
@@ -179,7 +179,7 @@ module _ (h : Header) (P : Block) (μ : List ℕ) (fixed : Steady P) (sound : So
 forecast-holds : (h : Header) (P : Block) (μ : List ℕ) {cb : List ℕ} {cu : ℕ} → ProgramIn h P cb cu → (buf : List ℕ) (used : ℕ) → take used buf ≡ encode_program h P
     → (forecast_call buf used μ).number ≡ 0 → ProgramIn h P buf used
 forecast-holds h P μ given buf used bytes z = record {
-  within = (good-buffer buf used (first-none (forecast_rows buf used μ) refl (sym (forecast-number buf used μ) ∙ z)).0).within;
+  within = (good-buffer buf used (none_at-zero (forecast_rows buf used μ) refl (sym (forecast-number buf used μ) ∙ z)).0).within;
   header = given.header;
   bytes = bytes;
   is_program = given.is_program;

@@ -2,3 +2,4 @@ pub mod OnTheWayLaws
 pub mod RoomLaws
 pub mod ForetoldLaws
 pub mod ForetoldExamplesLaws
+pub mod ForecastNumbersLaws

@@ -1,2 +1,3 @@
 pub mod Foretold
 pub mod ForetoldExamples
+pub mod ForecastNumbers

@@ -3,7 +3,7 @@ use Prim.Native.Nat.{ℕ}
 use mathlib.Core.Path.{ap, refl, sym, ◌∙◌, ◌≡◌}
 use mathlib.Core.Logic.{inl, inr, ◌⊎◌}
 use mathlib.Core.Bool.{◌&&◌, Bool, false, not, true, ◌||◌}
-use mathlib.Core.List.{◌++◌, List, [], ◌∷◌}
+use mathlib.Core.List.{◌++◌, List, [], append-nil, ◌∷◌}
 use mathlib.Core.Option.{Option, none, some}
 use borrow.Author.Tests.{eq-eqb}
 use lib.Dec.{eqb}
@@ -92,6 +92,10 @@ first_past (r ∷ rs) more n h e =
         → pick_row b r.number (first_row (rs ++ more)) ≡ n → NoRow (r ∷ rs) × (first_row more ≡ n)
     go true q m ih f = true-false (sym m ∙ ap not (eq-eqb n r.number (sym f)))
     go false q m ih f = let i = ih f in ((q, i.0), i.1)
+
+-- where no row has number 0 and the first that applies has it, there is none
+pub none_at-zero : (rs : List Row) → without 0 rs ≡ true → first_row rs ≡ 0 → NoRow rs
+none_at-zero rs h e = (first_past rs [] 0 h (ap first_row (append-nil rs) ∙ e)).0
 
 -- the number of the first row that applies stands in the table
 first_of : (rs : List Row) (n : ℕ) → numbered rs ≡ true → First rs n → (n ≡ 0) ⊎ (in_table n ≡ true)

@@ -19,7 +19,6 @@ pub data Place : Type 0 where
   read_store : Place
   conversion : Place
   conversion_back : Place
-  forecast : Place
 
 -- A row of the table: the places that it names, and its number.
 pub record Entry : Type 0 where
@@ -31,7 +30,7 @@ abbrev pub entry : List Place → ℕ → Entry
 entry ps n = record { places = ps; number = n }
 
 -- THE TABLE. Row 11 is C-11's; 12 and 13 are C-14's, of the counting stepper and of the writing out alone; 14 is C-16's; 15 and 16 are
--- C-17's: a record's literals or numerals, and a store that is read, with what a state holds; 17 is C-18's, of moving back alone; 18 and 19 are C-19's.
+-- C-17's: a record's literals or numerals, and a store that is read, with what a state holds; 17 is C-18's, of moving back alone.
 abbrev pub table : List Entry
 table =
     entry (buffers ∷ []) 1
@@ -47,12 +46,10 @@ table =
     ∷ entry (weighing ∷ []) 11
     ∷ entry (counting ∷ []) 13
     ∷ entry (read_store ∷ []) 16
-    ∷ entry (forecast ∷ []) 18
     ∷ entry (reducer ∷ result ∷ []) 7
     ∷ entry (result ∷ []) 8
     ∷ entry (read_back ∷ []) 9
     ∷ entry (translator ∷ read_back ∷ writing_out ∷ batch ∷ conversion ∷ []) 10
-    ∷ entry (forecast ∷ []) 19
     ∷ []
 
 -- Some element of the list passes the test.
@@ -83,7 +80,6 @@ place_number batch = 11
 place_number read_store = 12
 place_number conversion = 13
 place_number conversion_back = 14
-place_number forecast = 15
 
 -- The two places are the same.
 abbrev pub same_place : Place → Place → Bool
