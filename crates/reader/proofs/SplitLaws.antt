@@ -10,7 +10,7 @@ use native.Mathlib.Omega.{arith}
 use Rattle.buffer.specs.Slice as slice
 use Rattle.buffer.proofs.SliceLaws.{length_part}
 use Rattle.record.specs.Front.{Front, is_only, u16}
-use Rattle.record.specs.Record.{bad, part, split}
+use Rattle.record.specs.Record.{bad, split}
 use Rattle.record.proofs.FrontLaws.{front-split, is_only-kind, is_only-no, no_front}
 use Rattle.reader.specs.Head.{head_at, kind_at, length_at}
 use Rattle.reader.specs.SplitHead.{split_head}

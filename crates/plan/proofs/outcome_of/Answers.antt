@@ -1,5 +1,4 @@
 -- Each arm knows its rule, and there the definition computes.
-use borrow.Author.Rules.{rules}
 use mathlib.Core.Path.{refl}
 use Rattle.plan.specs.Plan.{plan_reads}
 use Rattle.plan.proofs.outcome_of.Goals as goal

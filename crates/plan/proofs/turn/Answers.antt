@@ -1,4 +1,3 @@
-use borrow.Author.Rules.{rules}
 use mathlib.Core.Path.{◌∙◌}
 use Rattle.plan.proofs.CaseLaws.{turn-stop, turn-unroll}
 use Rattle.plan.proofs.turn.Goals as goal
