@@ -3,7 +3,6 @@ use Prim.Native.Nat.{ℕ}
 use mathlib.Core.Path.{refl, ◌≡◌}
 use mathlib.Core.Bool.{true}
 use mathlib.Core.List.{List, map}
-use mathlib.Core.Option.{none}
 use Rattle.batch.specs.RunBatch.{batch_rows}
 use Rattle.batch.proofs.RunBatchLaws.{batch-number, batch-refused}
 use Rattle.conversion.specs.Convert.{convert_call, convert_rows}
@@ -29,7 +28,6 @@ use Rattle.stepper.proofs.RunStepperLaws.{stepper-number, stepper-refused}
 use Rattle.term.proofs.CallLaws.{read_back-number, read_back-refused, result-number, result-refused, substitute-number, substitute-refused, translate-number, translate-refused}
 use Rattle.weighing.proofs.WeighLaws.{weigh-number, weigh-refused}
 use Rattle.agreement.specs.Demand1.{Demand1, Numbers, of_conversion}
-use Rattle.agreement.specs.Examples.{budget}
 
 -- a call's number is the first row's; that its rows are the table's is computed
 numbers : {places : List Place} (rs : List Row) (n : ℕ) → map (λ (r : Row). r.number) rs ≡ numbers_at places → numbered rs ≡ true → n ≡ first_row rs → Numbers places rs n

@@ -6,7 +6,6 @@ use mathlib.Core.Logic.{◌↔◌}
 use mathlib.Core.Bool.{false}
 use Rattle.record.specs.declared.Header.{Header}
 use Rattle.record.specs.Header.{largest_of, ok_of}
-use Rattle.stepper.specs.RunStepper.{steps}
 use Rattle.batch.proofs.BatchMeaningLaws.{batch-means}
 use Rattle.conversion.proofs.ConversionMeaningLaws.{conversion-means}
 use Rattle.counting.proofs.CountingMeaningLaws.{counting-means}
@@ -24,7 +23,6 @@ use Rattle.stepper.proofs.RunStepperLaws.{stepper-ran}
 use Rattle.term.proofs.CallMeaningLaws.{calls-mean}
 use Rattle.weighing.proofs.WeighLaws.{weigh-means}
 use Rattle.agreement.specs.Demand2.{Demand2}
-use Rattle.agreement.specs.Examples.{budget}
 
 -- a value that does not pass is above the largest that does
 over-largest : (h : Header) {P : ℕ → Type 0} → ((n : ℕ) × P n × (ok_of h n ≡ false)) ↔ ((n : ℕ) × P n × (largest_of h < n))

@@ -52,7 +52,7 @@ use Rattle.rules.specs.Translation.{atom_of, refs, simple_of, translate}
 use Rattle.rules.proofs.LiteralsLaws.{not-small}
 use Rattle.run.specs.RunAnswer.{RunAnswer, outcome_number, refusal, room_for}
 use Rattle.stepper.specs.RunStepper.{run_stepper, stepped_to, stepper_by}
-use Rattle.term.specs.Calls.{no_source, numerals, read_back_call, result_call, substitute_call, substituted, substituted_by, translate_call}
+use Rattle.term.specs.Calls.{no_source, numerals, read_back_call, result_call, substitute_call, substituted_by, translate_call}
 use Rattle.agreement.specs.Demand3.{Agree, Agreement, Demand3Either, HoldsBlock, Start, begun, start_world}
 use Rattle.agreement.specs.Examples.{accepted_values, add, budget, config_of, ending_of_reducer, ending_of_stepper, examples, expected, of_variables, program_bytes_of, reducer_ending, reducer_expected, shown, shown_by, shown_from, stepper_ending, substituted_of, translated_of, with_ceiling}
 use Rattle.agreement.specs.GoingBack.{GoingBack, went_back, written_out}

@@ -21,7 +21,7 @@ use Rattle.rules.specs.Substitution.{from_store, substitute}
 use Rattle.rules.specs.Syntax.{Atom, Block, Term, empty, num, over, tuple}
 use Rattle.rules.specs.Translation.{translate}
 use Rattle.stepper.specs.RunStepper.{run_stepper}
-use Rattle.term.specs.Calls.{Substituted, substitute_call, substituted, translate_call}
+use Rattle.term.specs.Calls.{Substituted, substitute_call, translate_call}
 use Rattle.agreement.specs.Orders.{AllAllowed, Memory, Order, RecordedMemory, ReducerMemory, Stepper, World, counted, play, recorded, reduces, steps, store_in}
 
 -- THE START: the header, the program P, the store μ; the buffers that they are accepted in, and the stepper's and the reducer's buffers.

@@ -12,7 +12,7 @@ use Rattle.rules.specs.Step.{step}
 use Rattle.rules.specs.Substitution.{state_of}
 use Rattle.rules.specs.Syntax.{Block, Config, Term, assign, dec, empty, inc, lit, loop, nest, upto, upto_var, var}
 use Rattle.run.specs.RunAnswer.{run_in}
-use Rattle.stepper.specs.RunStepper.{StepperCall, run_stepper, steps}
+use Rattle.stepper.specs.RunStepper.{StepperCall, run_stepper}
 use Rattle.stepping.specs.State.{config_bytes}
 use Rattle.term.specs.Calls.{Substituted, numerals, result_call, substitute_call, translate_call}
 

@@ -1,5 +1,5 @@
 -- Laws of the conversions: number and refusal, what they write, what they let through.
-use Prim.Native.Nat.{◌+◌, ◌<◌, ℕ, ◌≤◌}
+use Prim.Native.Nat.{◌<◌, ℕ, ◌≤◌}
 use mathlib.Core.Path.{ap, refl, subst, sym, ◌∙◌, ◌≡◌}
 use mathlib.Core.Bool.{Bool, false, true, ◌||◌}
 use mathlib.Core.List.{◌++◌, List, [], ◌∷◌}

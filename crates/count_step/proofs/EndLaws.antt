@@ -1,5 +1,5 @@
 -- THE WAYS AT THE END OF A BLOCK: the last entry goes, or its loop's next turn comes.
-use Prim.Native.Nat.{◌*◌, ◌+◌, ◌-◌, ◌<◌, ◌≤◌, suc, zero, ℕ}
+use Prim.Native.Nat.{◌*◌, ◌+◌, ◌<◌, ◌≤◌, suc, zero, ℕ}
 use mathlib.Core.Path.{ap, refl, subst, sym, ◌∙◌, ◌≡◌}
 use mathlib.Core.Bool.{Bool}
 use mathlib.Core.List.{◌++◌, List, [], ◌∷◌}

@@ -1,5 +1,5 @@
 -- THE WAYS OF A LOOP AT NO PLACE IN ITS BODY, by what is read of its entry.
-use Prim.Native.Nat.{◌*◌, ◌+◌, ◌-◌, suc, zero, ℕ}
+use Prim.Native.Nat.{◌*◌, ◌+◌, suc, zero, ℕ}
 use mathlib.Core.Path.{ap, refl, sym, ◌∙◌, ◌≡◌}
 use mathlib.Core.List.{List}
 use lib.ListN.{get_or, length, set}

@@ -1,6 +1,6 @@
 -- THE RUN OF THE COUNTING STEPPER, as a call: its number, a refusal, what its rows let through, and what an accepted run answers and
 -- leaves.
-use Prim.Native.Nat.{◌+◌, ◌<◌, ◌≤◌, suc, zero, ℕ}
+use Prim.Native.Nat.{◌≤◌, suc, zero, ℕ}
 use mathlib.Core.Path.{ap, refl, subst, sym, ◌∙◌, ◌≡◌}
 use mathlib.Core.Logic.Iff
 use mathlib.Core.Bool.{false, not, true}

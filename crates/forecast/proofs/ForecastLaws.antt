@@ -5,7 +5,6 @@ use mathlib.Core.Bool.{Bool, false, not, true, ◌||◌}
 use mathlib.Core.List.{List, [], ◌∷◌}
 use mathlib.Core.Option.{some}
 use borrow.Author.Tests.{le-ltb, lt-ltb}
-use lib.Dec.{ltb}
 use lib.ListN.{length}
 use native.Mathlib.Omega.{arith}
 use Rattle.record.specs.declared.Header.{Header}
@@ -18,7 +17,7 @@ use Rattle.record.proofs.RowLaws.{first-applies, first-skips, holds-some, none_a
 use Rattle.rules.specs.Sound.{SmallValues}
 use Rattle.rules.specs.Syntax.{Block}
 use Rattle.forecast.specs.Figures.{Figures, figures, longest_of, program_weights, steps_of, term_weights}
-use Rattle.forecast.specs.Forecast.{Forecast, bound_assigned, figure_rows, figure_too_large, forecast_by, forecast_call, forecast_rows, some_too_large, too_large}
+use Rattle.forecast.specs.Forecast.{bound_assigned, figure_rows, figure_too_large, forecast_by, forecast_call, forecast_rows, some_too_large, too_large}
 use Rattle.forecast.specs.Steady.{steady}
 
 -- NUMBER AND REFUSAL

@@ -1,6 +1,6 @@
 -- Demand 1 of a forecast, proved: that its rows are those numbers is computed.
 use Prim.Native.Nat.{ℕ}
-use mathlib.Core.Path.{refl, sym, ◌∙◌, ◌≡◌}
+use mathlib.Core.Path.{refl, ◌≡◌}
 use mathlib.Core.Logic.{inl, inr, ◌⊎◌}
 use mathlib.Core.Bool.{Bool, false, true, ◌||◌}
 use mathlib.Core.List.{List, [], map, ◌∷◌}
@@ -9,9 +9,9 @@ use lib.Dec.{eqb}
 use Rattle.record.specs.Rows.{First, Row, first_row}
 use Rattle.record.specs.Table.{any}
 use Rattle.record.proofs.RowLaws.{first-first, none_at-zero, none_first}
-use Rattle.forecast.specs.Forecast.{forecast_call, forecast_rows}
+use Rattle.forecast.specs.Forecast.{forecast_rows}
 use Rattle.forecast.proofs.ForecastLaws.{forecast-number, forecast-refused}
-use Rattle.foretold.specs.ForecastNumbers.{ForecastNumbers, forecast_numbers}
+use Rattle.foretold.specs.ForecastNumbers.{ForecastNumbers}
 
 or-either : (a b : Bool) → b ≡ true → (a || b) ≡ true
 or-either true b e = refl

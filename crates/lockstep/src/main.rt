@@ -78,7 +78,13 @@ fn count_rest<R: Read>(input: &mut R, space: &mut [u8], before: usize) -> io::Re
     Ok(total)
 }
 
-fn print_line<W: Write>(output: &mut W, a: &mut [u8], b: &mut [u8], behind: &[u8], total: usize) -> io::Result<()>
+fn print_line<W: Write>(
+    output: &mut W,
+    a: &mut [u8],
+    b: &mut [u8],
+    behind: &[u8],
+    total: usize,
+) -> io::Result<()>
     requires { (length a.old ≡ program_buffer) × (length b.old ≡ program_buffer) }
 {
     let end = line(a, b, behind, total);
@@ -87,7 +93,12 @@ fn print_line<W: Write>(output: &mut W, a: &mut [u8], b: &mut [u8], behind: &[u8
 
 // Nothing is printed where a read has failed: what came then would not stand behind the record. Where the length was
 // too large, the bytes that `behind` has are only counted.
-fn answer<R: Read, W: Write>(input: &mut R, output: &mut W, a: &mut [u8], b: &mut [u8]) -> io::Result<()>
+fn answer<R: Read, W: Write>(
+    input: &mut R,
+    output: &mut W,
+    a: &mut [u8],
+    b: &mut [u8],
+) -> io::Result<()>
     requires { (length a.old ≡ program_buffer) × (length b.old ≡ program_buffer) }
 {
     let record = read_record(input, a)?;

@@ -11,7 +11,7 @@ use native.Mathlib.Nat.{mul-le-mul}
 use native.Mathlib.Omega.{arith}
 use Rattle.place.proofs.ProgramViewLaws.{row-empty}
 use Rattle.rules.specs.Evaluate.{assign_steps}
-use Rattle.rules.specs.Syntax.{Block, empty, loop}
+use Rattle.rules.specs.Syntax.{Block, empty}
 use Rattle.forecast.specs.Figures.{loop_steps, steps_of}
 use Rattle.forecast.specs.Rows.{Opened, RowOf, opens_assign, opens_loop, opens_nest}
 use Rattle.step_forecast.specs.Wide.{as_wide, too_large, wide}

@@ -9,7 +9,6 @@ use Rattle.record.specs.declared.Header.{Header}
 use Rattle.record.specs.Header.{ok_of}
 use Rattle.record.specs.Holding.{ProgramIn}
 use Rattle.record.specs.Rows.{bad_buffer, first_row, header_of, k_of, store_rows}
-use Rattle.record.specs.Term.{same}
 use Rattle.rules.specs.Run.{Ran}
 use Rattle.rules.specs.Sound.{SmallValues, SoundConfig}
 use Rattle.rules.specs.Step.{step}

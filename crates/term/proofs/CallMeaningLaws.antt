@@ -5,7 +5,6 @@ use mathlib.Core.Logic.{inl, ◌↔◌, ◌⊎◌}
 use mathlib.Core.Bool.{not, true}
 use mathlib.Core.List.{List, [], map, ◌∷◌}
 use mathlib.Core.Option.{some}
-use lib.Dec.{T}
 use lib.ListN.{length, take}
 use native.Mathlib.Omega.{arith}
 use Rattle.buffer.specs.LittleEndian.{Bytes}

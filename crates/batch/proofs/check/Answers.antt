@@ -1,10 +1,4 @@
 -- One law for each way out.
-use borrow.Author.Rules.{rules}
-use Rattle.batch.proofs.check.Reads as reads
-use Rattle.batch.proofs.check.Lts as lts
-use Rattle.checker.proofs.bad_buffer.Reads as bad-buffer-reads
-use Rattle.checker.proofs.too_long.Reads as too-long-reads
-use Rattle.program_checker.proofs.check_record.Reads as check-record-reads
 use mathlib.Core.Path.{◌∙◌, sym}
 use native.Mathlib.Omega.{arith}
 use Rattle.record.proofs.HeldLaws.{long-is}

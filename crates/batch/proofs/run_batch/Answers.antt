@@ -1,11 +1,4 @@
 -- A row that the check gives, or the batch of what it lets through.
-use borrow.Author.Rules.{rules}
-use Rattle.batch.proofs.run_batch.Reads as reads
-use Rattle.batch.proofs.run_batch.Lts as lts
-use Rattle.batch.proofs.check.Reads as check-reads
-use Rattle.batch.proofs.run_checked.Reads as run-checked-reads
-use Rattle.record.proofs.read_header.Reads as read-header-reads
-use Rattle.term.proofs.refused.Reads as refused-reads
 use mathlib.Core.Path.{◌∙◌, sym}
 use native.Mathlib.Omega.{arith}
 use Rattle.buffer.proofs.LittleEndianLaws.{bytes_of}

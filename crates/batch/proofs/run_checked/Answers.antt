@@ -1,5 +1,4 @@
 -- Rows 6 and 10, or the term written, the jobs run and the reducer's buffer cleared.
-use borrow.Author.Rules.{rules}
 use mathlib.Core.Path.{◌∙◌, ap, refl}
 use mathlib.Core.Logic.{inl, inr}
 use native.Mathlib.Omega.{arith}

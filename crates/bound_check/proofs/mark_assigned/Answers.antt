@@ -1,13 +1,7 @@
 use native.Mathlib.Omega.{arith}
-use mathlib.Core.Path.{◌≡◌, refl, ◌∙◌, ap, sym}
-use mathlib.Core.Logic.{⊎_elim}
-use mathlib.Core.Bool.{Bool}
-use lib.ListN.{length}
-use Prim.Native.Nat.{ℕ, ◌-◌, ◌≤◌}
-use Rattle.rules.specs.Syntax.{Block}
-use Rattle.forecast.specs.Rows.{RowOf}
+use mathlib.Core.Path.{refl, ◌∙◌, sym}
 use Rattle.bound_check.proofs.HeadLaws.{pass}
-use Rattle.bound_check.proofs.MarkLaws.{Marking, mark-end, mark-named, mark-nameless, mark-start, set-length}
+use Rattle.bound_check.proofs.MarkLaws.{mark-end, mark-named, mark-nameless, mark-start}
 use Rattle.bound_check.proofs.mark_assigned.Goals.{then-kind-ne-BLOCK, else-kind-ne-BLOCK}
 use Rattle.bound_check.proofs.mark_assigned.Goals as goal
 
@@ -74,8 +68,9 @@ loop-at-preserved c = (
       let M = c.loop-at.invariant.1 k b f h in
       let P = pass M.row c.loop-at-test.true c.get_u16-kind.ensures.0 in
       elim c.if-kind-ne-BLOCK.branch [
-        then-kind-ne-BLOCK w ↦ mark-named M P c.head_size-at.ensures (λ e. omega (arith, w.if-kind-ne-BLOCK.true)) f c.loop-at.invariant.0 w.get_u32-variable.ensures w.marks-is
-        | else-kind-ne-BLOCK w ↦ mark-nameless M P c.head_size-at.ensures (omega (arith, w.if-kind-ne-BLOCK.false)) w.marks-is ],
+        | then-kind-ne-BLOCK w ↦ mark-named M P c.head_size-at.ensures (λ e. omega (arith, w.if-kind-ne-BLOCK.true)) f c.loop-at.invariant.0 w.get_u32-variable.ensures w.marks-is
+        | else-kind-ne-BLOCK w ↦ mark-nameless M P c.head_size-at.ensures (omega (arith, w.if-kind-ne-BLOCK.false)) w.marks-is
+      ],
 )
 
 pub shape_of-marks : goal.shape_of-marks

@@ -1,13 +1,10 @@
-use native.Mathlib.Omega.{arith}
-use mathlib.Core.Path.{◌≡◌, refl, ◌∙◌, ap, sym}
-use mathlib.Core.Logic.{⊎_elim}
+use mathlib.Core.Path.{◌≡◌}
 use mathlib.Core.Bool.{Bool}
 use lib.ListN.{length}
 use Prim.Native.Nat.{ℕ, ◌-◌, ◌≤◌}
 use Rattle.rules.specs.Syntax.{Block}
 use Rattle.forecast.specs.Rows.{RowOf}
-use Rattle.bound_check.proofs.HeadLaws.{pass}
-use Rattle.bound_check.proofs.MarkLaws.{Marking, mark-end, mark-named, mark-nameless, mark-start, set-length}
+use Rattle.bound_check.proofs.MarkLaws.{Marking}
 use Rattle.bound_check.proofs.mark_assigned.Given as goal
 
 abbrev pub invariant-loop-at : goal.invariant-loop-at

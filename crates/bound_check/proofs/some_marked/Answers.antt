@@ -1,12 +1,8 @@
 use native.Mathlib.Omega.{arith}
 use mathlib.Core.Path.{refl}
-use mathlib.Core.Logic.{⊎_elim}
-use Prim.Native.Nat.{ℕ, ◌-◌}
-use Rattle.rules.specs.Syntax.{Block}
-use Rattle.forecast.specs.Rows.{RowOf}
 use Rattle.bound_check.specs.Marks.{marked}
 use Rattle.bound_check.proofs.HeadLaws.{pass}
-use Rattle.bound_check.proofs.MarkLaws.{Looking, bound-within, look-end, look-found, look-on, look-past, look-start}
+use Rattle.bound_check.proofs.MarkLaws.{bound-within, look-end, look-found, look-on, look-past, look-start}
 use Rattle.bound_check.proofs.some_marked.Goals.{else-kind-eq-LOOP-via-then-kind-eq-LOOP+else-bound_marked, else-kind-eq-LOOP-via-else-kind-eq-LOOP}
 use Rattle.bound_check.proofs.some_marked.Goals as goal
 
@@ -61,8 +57,9 @@ loop-at-preserved c =
     let L = c.loop-at.invariant k b h in
     let P = pass L.row c.loop-at-test.true c.get_u16-kind.ensures.0 in
     elim c.else-kind-eq-LOOP.branch [
-      else-kind-eq-LOOP-via-then-kind-eq-LOOP+else-bound_marked w ↦ look-past L P w.if-kind-eq-LOOP.true w.bound_marked.ensures w.if-bound_marked.false c.head_size-at.ensures
-      | else-kind-eq-LOOP-via-else-kind-eq-LOOP w ↦ look-on L P w.if-kind-eq-LOOP.false c.head_size-at.ensures ]
+      | else-kind-eq-LOOP-via-then-kind-eq-LOOP+else-bound_marked w ↦ look-past L P w.if-kind-eq-LOOP.true w.bound_marked.ensures w.if-bound_marked.false c.head_size-at.ensures
+      | else-kind-eq-LOOP-via-else-kind-eq-LOOP w ↦ look-on L P w.if-kind-eq-LOOP.false c.head_size-at.ensures
+    ]
 
 pub returns : goal.returns
 returns c = λ k b h. look-end (c.loop-at.invariant k b h) (omega (arith, c.loop-at-test.false))

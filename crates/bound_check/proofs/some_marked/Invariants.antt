@@ -1,12 +1,8 @@
-use native.Mathlib.Omega.{arith}
-use mathlib.Core.Path.{refl}
-use mathlib.Core.Logic.{⊎_elim}
 use Prim.Native.Nat.{ℕ, ◌-◌}
 use Rattle.rules.specs.Syntax.{Block}
 use Rattle.forecast.specs.Rows.{RowOf}
 use Rattle.bound_check.specs.Marks.{marked}
-use Rattle.bound_check.proofs.HeadLaws.{pass}
-use Rattle.bound_check.proofs.MarkLaws.{Looking, bound-within, look-end, look-found, look-on, look-past, look-start}
+use Rattle.bound_check.proofs.MarkLaws.{Looking}
 use Rattle.bound_check.proofs.some_marked.Given as goal
 
 abbrev pub invariant-loop-at : goal.invariant-loop-at

@@ -1,7 +1,3 @@
-use borrow.Author.Rules.{rules}
-use Rattle.canonical.proofs.canonical_entry.Reads as reads
-use Rattle.canonical.proofs.canonical_entry.Lts as lts
-use Rattle.canonical.proofs.mark_of.Reads as mark-of-reads
 use native.Mathlib.Omega.{arith}
 use lib.ListN.{length-set}
 use Rattle.canonical.proofs.RowsLaws.{entry-block, entry-loop}

@@ -1,6 +1,3 @@
-use borrow.Author.Rules.{rules}
-use Rattle.canonical.proofs.canonical_head.Reads as reads
-use Rattle.canonical.proofs.canonical_head.Lts as lts
 use Rattle.canonical.proofs.RowsLaws.{head-none, head-waits}
 use Rattle.canonical.proofs.canonical_head.Goals as goal
 

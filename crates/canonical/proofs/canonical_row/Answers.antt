@@ -1,8 +1,3 @@
-use borrow.Author.Rules.{rules}
-use Rattle.canonical.proofs.canonical_row.Reads as reads
-use Rattle.canonical.proofs.canonical_row.Lts as lts
-use Rattle.canonical.proofs.canonical_entry.Reads as canonical-entry-reads
-use Rattle.state_words.proofs.put_entry.Reads as put-entry-reads
 use mathlib.Core.Path.{◌∙◌}
 use Rattle.canonical.proofs.RowsLaws.{row-free, row-held}
 use Rattle.canonical.proofs.canonical_row.Goals as goal

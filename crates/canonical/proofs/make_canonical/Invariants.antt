@@ -1,14 +1,8 @@
-use Rattle.canonical.proofs.make_canonical.Reads as reads
-use Rattle.canonical.proofs.make_canonical.Lts as lts
-use Rattle.canonical.proofs.canonical_head.Reads as canonical-head-reads
-use Rattle.canonical.proofs.canonical_row.Reads as canonical-row-reads
-use Rattle.canonical.proofs.open_count.Reads as open-count-reads
-use native.Mathlib.Omega.{arith}
-use mathlib.Core.Path.{◌≡◌, refl, ◌∙◌}
+use mathlib.Core.Path.{◌≡◌}
 use mathlib.Core.List.{List}
 use Prim.Native.Nat.{ℕ, ◌-◌, ◌≤◌}
 use lib.ListN.{length}
-use Rattle.canonical.proofs.RowsLaws.{Passed, passed-end, passed_on, passed_start}
+use Rattle.canonical.proofs.RowsLaws.{Passed}
 use Rattle.canonical.proofs.make_canonical.Given as goal
 
 abbrev pub invariant-loop-j : goal.invariant-loop-j

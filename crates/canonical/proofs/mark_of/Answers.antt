@@ -1,5 +1,3 @@
-use Rattle.canonical.proofs.mark_of.Reads as reads
-use Rattle.canonical.proofs.mark_of.Lts as lts
 use Rattle.canonical.proofs.RowsLaws.{mark-0, mark-1}
 use Rattle.canonical.proofs.mark_of.Goals as goal
 

@@ -1,11 +1,6 @@
-use Rattle.canonical.proofs.open_count.Reads as reads
-use Rattle.canonical.proofs.open_count.Lts as lts
-use Rattle.state_words.proofs.word.Reads as word-reads
 use native.Mathlib.Omega.{arith}
-use mathlib.Core.Path.{◌≡◌, sym, ◌∙◌}
-use Prim.Native.Nat.{◌+◌, ◌-◌, ◌≤◌}
-use lib.ListN.{length}
-use Rattle.canonical.proofs.HeldLaws.{behind, count-all, count-end, count_next}
+use mathlib.Core.Path.{sym, ◌∙◌}
+use Rattle.canonical.proofs.HeldLaws.{count-all, count-end, count_next}
 use Rattle.canonical.proofs.open_count.Goals as goal
 
 pub loop-n-init : goal.loop-n-init

@@ -1,11 +1,7 @@
-use Rattle.canonical.proofs.open_count.Reads as reads
-use Rattle.canonical.proofs.open_count.Lts as lts
-use Rattle.state_words.proofs.word.Reads as word-reads
-use native.Mathlib.Omega.{arith}
-use mathlib.Core.Path.{◌≡◌, sym, ◌∙◌}
+use mathlib.Core.Path.{◌≡◌}
 use Prim.Native.Nat.{◌+◌, ◌-◌, ◌≤◌}
 use lib.ListN.{length}
-use Rattle.canonical.proofs.HeldLaws.{behind, count-all, count-end, count_next}
+use Rattle.canonical.proofs.HeldLaws.{behind}
 use Rattle.canonical.proofs.open_count.Given as goal
 
 abbrev pub invariant-loop-n : goal.invariant-loop-n

@@ -1,4 +1,3 @@
-use borrow.Author.Rules.{rules}
 use mathlib.Core.Path.{sym, ◌∙◌}
 use Rattle.record.proofs.HeldLaws.{long-bad, long-is, short-bad}
 use Rattle.checker.proofs.bad_buffer.Goals as goal

@@ -1,9 +1,8 @@
 -- From each place on, the test of what is left is that of all.
-use borrow.Author.Rules.{rules}
-use Prim.Native.Nat.{◌+◌, ◌-◌, suc, ℕ}
+use Prim.Native.Nat.{◌+◌, suc, ℕ}
 use mathlib.Core.Path.{ap, sym, refl, ◌∙◌, ◌≡◌}
 use mathlib.Core.Bool.{Bool, not, ◌&&◌}
-use lib.ListN.{drop, length}
+use lib.ListN.{drop}
 use native.Mathlib.Omega.{arith}
 use Rattle.rules.specs.Literals.{small_values}
 use Rattle.rules.specs.Store.{up_to}

@@ -1,14 +1,9 @@
 -- From each place on, the test of what is left is that of all.
-use borrow.Author.Rules.{rules}
-use Prim.Native.Nat.{◌+◌, ◌-◌, suc, ℕ}
-use mathlib.Core.Path.{ap, sym, refl, ◌∙◌, ◌≡◌}
-use mathlib.Core.Bool.{Bool, not, ◌&&◌}
+use Prim.Native.Nat.{◌-◌}
+use mathlib.Core.Path.{◌≡◌}
 use lib.ListN.{drop, length}
-use native.Mathlib.Omega.{arith}
 use Rattle.rules.specs.Literals.{small_values}
 use Rattle.rules.specs.Store.{up_to}
-use Rattle.rules.proofs.LiteralsLaws.{small_values-at, small_values-end}
-use Rattle.rules.proofs.StoreLaws.{up_to-above, up_to-iff}
 use Rattle.checker.proofs.some_above.Given as goal
 
 abbrev pub invariant-loop-i : goal.invariant-loop-i

@@ -1,12 +1,9 @@
-use mathlib.Core.Path.{◌≡◌, subst, sym, ◌∙◌}
-use Prim.Native.Nat.{ℕ, ◌+◌, ◌-◌, ◌*◌, ◌<◌}
-use native.Mathlib.Omega.{arith}
+use Prim.Native.Nat.{◌+◌, ◌-◌, ◌*◌, ◌<◌}
 use lib.ListN.{length}
 use Rattle.rules.specs.Syntax.{Block}
 use Rattle.record.specs.Program.{block_size}
 use Rattle.place.specs.ProgramView.{BlockAt}
 use Rattle.place.specs.Path.{Walk}
-use Rattle.place.proofs.PathLaws.{walk_start, walk-room, walk-next, walk_end}
 use Rattle.command.proofs.open_levels.Given as goal
 
 abbrev pub invariant-loop-levels : goal.invariant-loop-levels

@@ -1,4 +1,3 @@
-use borrow.Author.Rules.{rules}
 use mathlib.Core.Path.{sym, ◌∙◌}
 use Rattle.place.proofs.PathLaws.{opens-kind, opens-test}
 use Rattle.command.proofs.opens.Goals as goal

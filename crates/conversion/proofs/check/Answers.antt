@@ -1,4 +1,3 @@
-use borrow.Author.Rules.{rules}
 use mathlib.Core.Path.{ap, sym, ◌∙◌}
 use Rattle.record.specs.declared.Sort.{Sort}
 use Rattle.conversion.specs.Converting.{check_sort}

@@ -1,5 +1,4 @@
 -- Row 1 by the output or the source, row 2 by the edition, the check's refusal, or the work on what it accepted.
-use borrow.Author.Rules.{rules}
 use native.Mathlib.Omega.{arith}
 use mathlib.Core.Path.{sym, ◌∙◌}
 use Rattle.buffer.proofs.LittleEndianLaws.{bytes_of}

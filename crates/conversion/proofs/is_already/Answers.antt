@@ -1,5 +1,4 @@
 -- No kind is used, or the kind beside the one asked for.
-use borrow.Author.Rules.{rules}
 use mathlib.Core.Path.{sym, ◌∙◌}
 use Rattle.record.proofs.HeldLaws.{kind_at}
 use Rattle.conversion.proofs.AnsweredLaws.{already-kind, already-short}

@@ -1,5 +1,4 @@
 -- The header, the contents and the zeros, stored one after the other.
-use borrow.Author.Rules.{rules}
 use Prim.Native.Nat.{◌+◌}
 use native.Mathlib.Omega.{arith}
 use mathlib.Core.Path.{◌∙◌, ◌≡◌}

@@ -1,11 +1,6 @@
 use native.Mathlib.Omega.{arith}
-use mathlib.Core.Path.{◌≡◌, refl, sym, ◌∙◌}
-use lib.ListN.{length}
-use Rattle.rules.specs.Syntax.{Block}
-use Rattle.counting.specs.Counting.{State}
-use Rattle.count_step.specs.Inner.{Holds}
-use Rattle.count_run.proofs.RunningLaws.{Between, between_ends, between-goes, between_left, between-on, between_start}
-use borrow.Author.Rules.{rules}
+use mathlib.Core.Path.{refl, sym, ◌∙◌}
+use Rattle.count_run.proofs.RunningLaws.{between_ends, between-goes, between_left, between-on, between_start}
 use Rattle.count_run.proofs.run_words.Goals as goal
 
 pub loop-tally-init : goal.loop-tally-init

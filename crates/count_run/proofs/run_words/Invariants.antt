@@ -1,11 +1,9 @@
-use native.Mathlib.Omega.{arith}
-use mathlib.Core.Path.{◌≡◌, refl, sym, ◌∙◌}
+use mathlib.Core.Path.{◌≡◌}
 use lib.ListN.{length}
 use Rattle.rules.specs.Syntax.{Block}
 use Rattle.counting.specs.Counting.{State}
 use Rattle.count_step.specs.Inner.{Holds}
-use Rattle.count_run.proofs.RunningLaws.{Between, between_ends, between-goes, between_left, between-on, between_start}
-use borrow.Author.Rules.{rules}
+use Rattle.count_run.proofs.RunningLaws.{Between}
 use Rattle.count_run.proofs.run_words.Given as goal
 
 abbrev pub invariant-loop-tally : goal.invariant-loop-tally

@@ -1,11 +1,3 @@
-use borrow.Author.Rules.{rules}
-use Rattle.counter.proofs.run_accepted.Reads as reads
-use Rattle.counter.proofs.run_accepted.Lts as lts
-use Rattle.canonical.proofs.make_canonical.Reads as make-canonical-reads
-use Rattle.canonical.proofs.open_count.Reads as open-count-reads
-use Rattle.count_run.proofs.run_words.Reads as run-words-reads
-use Rattle.record.proofs.Header.contents_at.Reads as contents-at-reads
-use Rattle.record.proofs.Header.largest.Reads as largest-reads
 use mathlib.Core.Path.{ap}
 use Prim.Native.Nat.{◌+◌, ℕ}
 use native.Mathlib.Omega.{arith}

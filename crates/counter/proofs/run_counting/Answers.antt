@@ -1,10 +1,3 @@
-use borrow.Author.Rules.{rules}
-use Rattle.counter.proofs.run_counting.Reads as reads
-use Rattle.counter.proofs.run_counting.Lts as lts
-use Rattle.counter.proofs.check.check.Reads as check-reads
-use Rattle.counter.proofs.run_accepted.Reads as run-accepted-reads
-use Rattle.record.proofs.read_header.Reads as read-header-reads
-use Rattle.run.proofs.refuse.Reads as refuse-reads
 use native.Mathlib.Omega.{arith}
 use Rattle.buffer.proofs.LittleEndianLaws.{bytes_of}
 use Rattle.counter.proofs.RunLaws.{accepted-gives, accepts, accepts-whole, refuses}

@@ -1,5 +1,4 @@
 -- The number read, with so much added and so much taken off; below 0 it stays 0, as in the definition.
-use borrow.Author.Rules.{rules}
 use native.Mathlib.Omega.{arith}
 use Prim.Native.Nat.{◌+◌, ◌-◌}
 use mathlib.Core.Path.{◌≡◌}

@@ -1,5 +1,4 @@
 -- Two neighbouring stores are one head.
-use borrow.Author.Rules.{rules}
 use Rattle.place.proofs.HeadsLaws.{put-head}
 use Rattle.edit.proofs.put_head.Goals as goal
 

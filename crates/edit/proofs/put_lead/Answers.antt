@@ -1,5 +1,4 @@
 -- A head, a variable and a record of one number are one lead.
-use borrow.Author.Rules.{rules}
 use native.Mathlib.Omega.{arith}
 use Prim.Native.Nat.{◌+◌}
 use mathlib.Core.Path.{refl}

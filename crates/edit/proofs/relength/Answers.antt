@@ -1,9 +1,7 @@
 -- What is left to do of the present bytes is what was to do behind the header.
-use borrow.Author.Rules.{rules}
 use native.Mathlib.Omega.{arith}
-use Prim.Native.Nat.{◌+◌, ◌*◌, ◌-◌, ◌≤◌}
+use Prim.Native.Nat.{◌+◌, ◌*◌, ◌-◌}
 use mathlib.Core.Path.{◌≡◌, ◌∙◌, ap, refl, sym}
-use lib.ListN.{length}
 use native.Mathlib.Nat.{add-zero, sub-zero}
 use Rattle.place.specs.Heads.{relength, shifted}
 use Rattle.place.proofs.HeadsLaws.{relength-turn, relength-zero}

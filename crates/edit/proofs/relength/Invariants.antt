@@ -1,13 +1,8 @@
 -- What is left to do of the present bytes is what was to do behind the header.
-use borrow.Author.Rules.{rules}
-use native.Mathlib.Omega.{arith}
 use Prim.Native.Nat.{◌+◌, ◌*◌, ◌-◌, ◌≤◌}
-use mathlib.Core.Path.{◌≡◌, ◌∙◌, ap, refl, sym}
+use mathlib.Core.Path.{◌≡◌}
 use lib.ListN.{length}
-use native.Mathlib.Nat.{add-zero, sub-zero}
 use Rattle.place.specs.Heads.{relength, shifted}
-use Rattle.place.proofs.HeadsLaws.{relength-turn, relength-zero}
-use Rattle.place.proofs.WholeLaws.{relength_all-is}
 use Rattle.edit.proofs.relength.Given as goal
 
 abbrev pub invariant-loop-i : goal.invariant-loop-i

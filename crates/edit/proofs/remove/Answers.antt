@@ -1,5 +1,4 @@
 -- Moved down, and zeros stored behind.
-use borrow.Author.Rules.{rules}
 use Prim.Native.Nat.{◌+◌, ◌-◌}
 use mathlib.Core.Path.{refl}
 use Rattle.place.proofs.EditLaws.{closed_up-is, removed-is}

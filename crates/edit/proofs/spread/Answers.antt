@@ -1,5 +1,4 @@
 -- The two moves, one after the other.
-use borrow.Author.Rules.{rules}
 use Rattle.place.proofs.UnrolledLaws.{spread-is}
 use Rattle.edit.proofs.spread.Goals as goal
 

@@ -1,5 +1,4 @@
 -- The product of a word and a length of at most 16,384 is far below a wrap.
-use borrow.Author.Rules.{rules}
 use Rattle.expansion.proofs.EntryLaws.{turns-bound}
 use native.Mathlib.Omega.{arith}
 use mathlib.Core.Path.{ap₂, ◌∙◌}

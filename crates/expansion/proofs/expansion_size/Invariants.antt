@@ -1,13 +1,9 @@
 -- What was counted and the length of what is left make up the whole; 189 words bound what was counted.
-use Rattle.expansion.proofs.SizingLaws.{sizing-start, sizing-step}
-use Rattle.expansion.proofs.WalkLaws.{around-entry, left-words, opened}
 use Rattle.expansion.specs.Walk.{Given}
 use Rattle.expansion.specs.Sizing.{Sizing}
 use Rattle.rules.specs.Syntax.{Block}
 use Rattle.counting.specs.Counting.{State}
-use native.Mathlib.Omega.{arith}
-use mathlib.Core.Path.{ap, sym, ◌∙◌}
-use Prim.Native.Nat.{◌*◌, ◌+◌, ◌-◌, ◌≤◌, ℕ}
+use Prim.Native.Nat.{◌*◌, ◌+◌, ◌-◌, ◌≤◌}
 use Rattle.expansion.proofs.expansion_size.Given as goal
 
 abbrev pub invariant-loop-n : goal.invariant-loop-n

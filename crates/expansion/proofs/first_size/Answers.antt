@@ -1,5 +1,4 @@
 -- One law for each way out.
-use borrow.Author.Rules.{rules}
 use Rattle.expansion.proofs.EntryLaws.{size-storing, size-unrolling, size-at-zero}
 use Prim.Native.Nat.{◌+◌}
 use lib.ListN.{get_or}

@@ -1,5 +1,4 @@
 -- One law for each way out; the words of an entry are there where its first is.
-use borrow.Author.Rules.{rules}
 use Rattle.expansion.proofs.EntryLaws.{opens-none, opens-first, opens-other, word-behind}
 use mathlib.Core.Path.{sym}
 use native.Mathlib.Omega.{arith}

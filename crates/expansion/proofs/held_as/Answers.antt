@@ -1,5 +1,4 @@
 -- A word behind the last reads as 0.
-use borrow.Author.Rules.{rules}
 use Rattle.expansion.proofs.EntryLaws.{word-behind}
 use native.Mathlib.Omega.{arith}
 use Rattle.expansion.proofs.held_as.Goals as goal

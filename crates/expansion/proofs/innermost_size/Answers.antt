@@ -1,5 +1,4 @@
 -- What the entry says, for every state that is left; bounds from the one that is known to be.
-use borrow.Author.Rules.{rules}
 use Rattle.expansion.proofs.EntryLaws.{first_size-most}
 use Rattle.expansion.proofs.SizingLaws.{shut-total}
 use Rattle.expansion.proofs.WalkLaws.{around-entry, ended, shut, some-held}

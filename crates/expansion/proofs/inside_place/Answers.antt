@@ -1,5 +1,4 @@
 -- Where the walk goes on inside a loop, its progress is at least 2.
-use borrow.Author.Rules.{rules}
 use Rattle.expansion.proofs.EntryLaws.{inside-first, inside-other, inside-two}
 use native.Mathlib.Omega.{arith}
 use mathlib.Core.Path.{◌∙◌, ap}

@@ -1,5 +1,4 @@
 -- What is held open, and not as a block, is a loop whose reached count is not above its top.
-use borrow.Author.Rules.{rules}
 use Rattle.expansion.proofs.EntryLaws.{to-come-first, to-come-other, other-loop}
 use lib.ListN.{get_or}
 use Rattle.expansion.proofs.to_come.Goals as goal

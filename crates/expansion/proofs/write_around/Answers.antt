@@ -1,5 +1,4 @@
 -- What is behind goes to the end of the place, and the turns fill what is left of it.
-use borrow.Author.Rules.{rules}
 use Rattle.expansion.proofs.WritingLaws.{around-fills, around-none, around-turns, turns-top}
 use Rattle.expansion.proofs.WalkLaws.{some-held}
 use Rattle.expansion.specs.Entry.{to_come}

@@ -1,13 +1,10 @@
 -- To write what is left into the place that is left is to write the whole into the first.
-use Rattle.expansion.proofs.WritingLaws.{bytes-fill, opened-bytes, writing_start, writing_step}
-use Rattle.expansion.proofs.WalkLaws.{around-entry, length-block_of, opened}
-use Rattle.expansion.specs.Walk.{Given, block_of}
+use Rattle.expansion.specs.Walk.{Given}
 use Rattle.expansion.specs.Writing.{Writing}
 use Rattle.rules.specs.Syntax.{Block}
 use Rattle.counting.specs.Counting.{State}
-use native.Mathlib.Omega.{arith}
-use mathlib.Core.Path.{ap, refl, sym, ◌∙◌, ◌≡◌}
-use Prim.Native.Nat.{◌+◌, ◌-◌, ◌≤◌, ℕ}
+use mathlib.Core.Path.{◌≡◌}
+use Prim.Native.Nat.{◌-◌, ◌≤◌}
 use lib.ListN.{length}
 use Rattle.expansion.proofs.write_expansion.Given as goal
 

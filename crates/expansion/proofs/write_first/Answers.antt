@@ -1,5 +1,4 @@
 -- One law for each way out.
-use borrow.Author.Rules.{rules}
 use Rattle.expansion.proofs.WritingLaws.{storing-written, unrolling-written, zero-written}
 use Rattle.expansion.proofs.EntryLaws.{size-storing, size-unrolling, size-at-zero}
 use native.Mathlib.Omega.{arith}

@@ -1,5 +1,4 @@
 -- What the entry says of the bytes, for every state that is left.
-use borrow.Author.Rules.{rules}
 use Rattle.expansion.proofs.WritingLaws.{bytes-fill, narrowed-done, shut-bytes}
 use Rattle.expansion.proofs.WalkLaws.{around-entry, ended, left-room, shut, some-held}
 use Rattle.expansion.proofs.PiecesLaws.{length-first}

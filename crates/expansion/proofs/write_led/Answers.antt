@@ -1,5 +1,4 @@
 -- A lead and what follows it are one store.
-use borrow.Author.Rules.{rules}
 use Rattle.expansion.proofs.WritingLaws.{led-written}
 use native.Mathlib.Omega.{arith}
 use Rattle.expansion.proofs.write_led.Goals as goal

@@ -1,5 +1,4 @@
 -- One law for each way out.
-use borrow.Author.Rules.{rules}
 use Rattle.expansion.proofs.WritingLaws.{rest-written, sum-written}
 use Rattle.expansion.proofs.WalkLaws.{some-held}
 use native.Mathlib.Omega.{arith}

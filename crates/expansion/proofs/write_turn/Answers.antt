@@ -1,5 +1,4 @@
 -- A turn is an assignment and the bytes of the body.
-use borrow.Author.Rules.{rules}
 use Rattle.expansion.proofs.WritingLaws.{turn-led}
 use Rattle.expansion.proofs.write_turn.Goals as goal
 

@@ -1,11 +1,8 @@
 -- To put the turns still to be written into the place that is left is to put all of them into the first.
-use Rattle.expansion.proofs.WritingLaws.{turns-done}
-use Rattle.expansion.proofs.PiecesLaws.{turn-room, turn-written}
 use Rattle.expansion.specs.Pieces.{turns_bytes}
 use Rattle.buffer.specs.Slice.{put}
-use native.Mathlib.Omega.{arith}
-use Prim.Native.Nat.{◌+◌, ◌-◌, ◌≤◌, ℕ}
-use mathlib.Core.Path.{refl, ◌∙◌, ◌≡◌}
+use Prim.Native.Nat.{◌+◌, ◌≤◌, ℕ}
+use mathlib.Core.Path.{◌≡◌}
 use mathlib.Core.List.{List}
 use lib.ListN.{length}
 use Rattle.expansion.proofs.write_turns.Given as goal

@@ -1,18 +1,9 @@
-use borrow.Author.Rules.{rules}
-use Rattle.forecaster.proofs.forecast_lent.Reads as reads
-use Rattle.forecaster.proofs.forecast_lent.Lts as lts
-use Rattle.bound_check.proofs.bound_assigned.Reads as bound-assigned-reads
-use Rattle.forecaster.proofs.refused.Reads as refused-reads
-use Rattle.record.proofs.Header.contents_at.Reads as contents-at-reads
-use Rattle.room_forecast.proofs.longest_program.Reads as longest-program-reads
-use Rattle.room_forecast.proofs.longest_term.Reads as longest-term-reads
-use Rattle.step_forecast.proofs.count_steps.Reads as count-steps-reads
 use mathlib.Core.Path.{ap, refl}
 use Prim.Native.Nat.{◌+◌, ℕ}
 use native.Mathlib.Omega.{arith}
 use Rattle.record.proofs.HeaderLaws.{contents_at-high}
 use Rattle.step_forecast.proofs.WideLaws.{steps-large, steps-number}
-use Rattle.forecaster.proofs.CallLaws.{before-fits, foretells, refuses-bound, refuses-large, row-16, row-k, row-store}
+use Rattle.forecaster.proofs.CallLaws.{foretells, refuses-bound, refuses-large, row-16, row-k, row-store}
 use Rattle.forecaster.proofs.forecast_lent.Goals as goal
 
 -- src/lib.rt:47:17

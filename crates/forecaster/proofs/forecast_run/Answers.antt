@@ -1,12 +1,3 @@
-use borrow.Author.Rules.{rules}
-use Rattle.forecaster.proofs.forecast_run.Reads as reads
-use Rattle.forecaster.proofs.forecast_run.Lts as lts
-use Rattle.checker.proofs.some_above.Reads as some-above-reads
-use Rattle.forecaster.proofs.forecast_lent.Reads as forecast-lent-reads
-use Rattle.forecaster.proofs.refused.Reads as refused-reads
-use Rattle.program_checker.proofs.check_program.Reads as check-program-reads
-use Rattle.record.proofs.Header.largest.Reads as largest-reads
-use Rattle.record.proofs.read_header.Reads as read-header-reads
 use mathlib.Core.Path.{sym}
 use native.Mathlib.Omega.{arith}
 use Rattle.buffer.proofs.LittleEndianLaws.{bytes_of}

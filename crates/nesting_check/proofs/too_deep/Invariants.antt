@@ -1,8 +1,4 @@
-use Rattle.nesting_check.proofs.too_deep.Reads as reads
-use Rattle.nesting_check.proofs.too_deep.Lts as lts
-use Rattle.nesting_check.proofs.turn.Reads as turn-reads
-use native.Mathlib.Omega.{arith}
-use mathlib.Core.Path.{◌≡◌, refl, sym, ◌∙◌}
+use mathlib.Core.Path.{◌≡◌}
 use lib.Dec.{ltb}
 use lib.ListN.{length}
 use Prim.Native.Nat.{ℕ, ◌+◌, ◌-◌, ◌*◌}
@@ -11,7 +7,6 @@ use Rattle.record.specs.Program.{block_size}
 use Rattle.place.specs.ProgramView.{BlockAt}
 use Rattle.counting.specs.Depth.{nesting}
 use Rattle.nesting_check.specs.Rows.{Scanned}
-use Rattle.nesting_check.proofs.RowsLaws.{scan-start, standing-end, standing-low}
 use Rattle.nesting_check.proofs.too_deep.Given as goal
 
 abbrev pub invariant-loop-q : goal.invariant-loop-q

@@ -1,8 +1,3 @@
-use borrow.Author.Rules.{rules}
-use Rattle.nesting_check.proofs.turn.Reads as reads
-use Rattle.nesting_check.proofs.turn.Lts as lts
-use Rattle.buffer.proofs.get_u16.Reads as get-u16-reads
-use Rattle.nesting_check.proofs.wide.Reads as wide-reads
 use native.Mathlib.Omega.{arith}
 use mathlib.Core.Path.{ap, sym, ◌∙◌}
 use Prim.Native.Nat.{ℕ, ◌+◌}

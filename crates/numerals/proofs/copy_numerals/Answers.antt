@@ -1,14 +1,9 @@
 -- After i turns the first i numerals stand in the store.
-use borrow.Author.Rules.{rules}
 use mathlib.Core.Path.{◌≡◌, refl, sym, ◌∙◌}
-use mathlib.Core.List.{List, map}
 use native.Mathlib.Omega.{arith}
-use Prim.Native.Nat.{ℕ, ◌-◌, ◌<◌, ◌≤◌}
+use Prim.Native.Nat.{◌<◌}
 use lib.ListN.{length, length-set}
-use Rattle.buffer.specs.Slice.{part, put}
-use Rattle.rules.specs.Syntax.{num}
 use Rattle.numerals.proofs.NumeralsLaws.{copied_all, copied_none, copied-turn, record-row}
-use Rattle.place.specs.TermView.{AtomsAt}
 use Rattle.place.proofs.WholeLaws.{term-at}
 use Rattle.place.proofs.TermViewLaws.{term-room}
 use Rattle.numerals.proofs.copy_numerals.Goals as goal

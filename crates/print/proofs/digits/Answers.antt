@@ -1,9 +1,5 @@
 -- Each division takes one digit off: the turns made and the digits left are one more than the digits of n.
 use native.Mathlib.Omega.{arith}
-use mathlib.Core.Path.{◌≡◌}
-use Prim.Native.Nat.{◌+◌}
-use lib.ListN.{length}
-use Rattle.print.specs.Decimal.{decimal}
 use Rattle.print.proofs.DecimalLaws.{digits-large, digits-small, digits-word}
 use Rattle.print.proofs.digits.Goals as goal
 

@@ -1,13 +1,10 @@
 -- The digits of what is left of n, put in front of those written, give n's.
 use native.Mathlib.Omega.{arith}
-use mathlib.Core.Path.{◌≡◌, refl, ◌∙◌}
-use Prim.Native.Nat.{◌+◌, ◌<◌, ◌/◌}
-use lib.ListN.{length, length-set}
-use Rattle.buffer.specs.Slice.{put}
-use Rattle.print.specs.Decimal.{decimal}
+use mathlib.Core.Path.{refl, ◌∙◌}
+use Prim.Native.Nat.{◌/◌}
+use lib.ListN.{length-set}
 use Rattle.print.proofs.DecimalLaws.{digits-large, digits-some}
 use Rattle.print.proofs.PrintLaws.{digit-last, digit-turn}
-use borrow.Author.Rules.{rules}
 use Rattle.print.proofs.put_decimal.Goals as goal
 
 pub overflow_sub-place : goal.overflow_sub-place

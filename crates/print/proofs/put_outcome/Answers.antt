@@ -1,5 +1,4 @@
 -- Each arm knows its case, and there the word computes.
-use borrow.Author.Rules.{rules}
 use native.Mathlib.Omega.{arith}
 use Rattle.print.specs.Words.{outcome_word}
 use Rattle.print.proofs.put_outcome.Goals as goal

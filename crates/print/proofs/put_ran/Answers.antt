@@ -1,5 +1,4 @@
 -- Five neighbouring stores, the end of line last.
-use borrow.Author.Rules.{rules}
 use native.Mathlib.Omega.{arith}
 use mathlib.Core.Path.{◌∙◌}
 use lib.ListN.{length-set}

@@ -1,5 +1,4 @@
 -- The end of line stands behind the word and the number.
-use borrow.Author.Rules.{rules}
 use native.Mathlib.Omega.{arith}
 use Rattle.print.proofs.PrintLaws.{refused-put}
 use Rattle.print.proofs.put_refused.Goals as goal

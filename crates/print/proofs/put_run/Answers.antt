@@ -1,5 +1,4 @@
 -- The word and the number are two neighbouring stores.
-use borrow.Author.Rules.{rules}
 use native.Mathlib.Omega.{arith}
 use lib.ListN.{length-append}
 use Rattle.buffer.proofs.StoresLaws.{stores-2}

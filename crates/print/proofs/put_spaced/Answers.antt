@@ -1,5 +1,4 @@
 -- The space and the digits are two neighbouring stores.
-use borrow.Author.Rules.{rules}
 use native.Mathlib.Omega.{arith}
 use mathlib.Core.Path.{◌∙◌}
 use lib.ListN.{length-set}

@@ -1,11 +1,7 @@
 -- The values from number i on, put behind those written, give all.
 use native.Mathlib.Omega.{arith}
-use borrow.Author.Rules.{rules}
 use mathlib.Core.Path.{◌≡◌, ◌∙◌, ap, refl, sym}
-use Prim.Native.Nat.{◌+◌, ◌*◌, ◌-◌, ◌≤◌}
-use lib.ListN.{drop, length}
-use Rattle.buffer.specs.Slice.{put}
-use Rattle.print.specs.Words.{spaced_all}
+use lib.ListN.{length}
 use Rattle.print.proofs.PrintLaws.{values-done, values_length, values-none, values-turn}
 use Rattle.print.proofs.put_values.Goals as goal
 

@@ -1,5 +1,4 @@
 -- The whole of the word is copied.
-use borrow.Author.Rules.{rules}
 use mathlib.Core.Path.{◌∙◌, ap, refl}
 use Rattle.buffer.specs.Slice.{put}
 use Rattle.print.proofs.PrintLaws.{part-whole}

@@ -1,11 +1,10 @@
-use native.Mathlib.Omega.{arith}
-use mathlib.Core.Path.{sym, ◌∙◌, ◌≡◌}
+use mathlib.Core.Path.{◌≡◌}
 use mathlib.Core.List.{List}
 use Prim.Native.Nat.{◌+◌, ◌-◌}
 use lib.ListN.{length}
 use Rattle.place.specs.TermView.{AtomsAt}
 use Rattle.rules.specs.Syntax.{Atom}
-use Rattle.recognition.proofs.AllLaws.{AtomsLeft, left_end, left-kind, left-next, left-number, left-room, left-start}
+use Rattle.recognition.proofs.AllLaws.{AtomsLeft}
 use Rattle.recognition.proofs.is_all.Given as goal
 
 abbrev pub invariant-loop-i : goal.invariant-loop-i

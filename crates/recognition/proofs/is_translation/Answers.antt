@@ -1,12 +1,8 @@
 use native.Mathlib.Omega.{arith}
 use mathlib.Core.Path.{ap, sym, ◌∙◌}
-use borrow.Author.Tests.{not-false, not-true}
-use Prim.Native.Nat.{◌-◌, ℕ}
+use Prim.Native.Nat.{ℕ}
 use lib.Dec.{eqb}
-use Rattle.record.specs.Holding.{TermIn}
-use Rattle.rules.specs.FreeVariables.{all_vars}
-use Rattle.rules.specs.Syntax.{Term}
-use Rattle.recognition.proofs.RecognitionLaws.{ToRecognise, is_let_all-kind, recognise-end, recognise-here, recognise-next, recognise-no, recognise-start}
+use Rattle.recognition.proofs.RecognitionLaws.{is_let_all-kind, recognise-end, recognise-here, recognise-next, recognise-no, recognise-start}
 use Rattle.recognition.proofs.ScanLaws.{kind-room, terms-pass}
 use Rattle.recognition.proofs.is_translation.Goals as goal
 

@@ -1,4 +1,3 @@
-use borrow.Author.Rules.{rules}
 use native.Mathlib.Omega.{arith}
 use mathlib.Core.Path.{sym, ◌∙◌}
 use Rattle.recognition.proofs.ScanLaws.{kind-left, kind-room, own-atom, own-let_all, own_of, own-rec, own_room, own-tuple}

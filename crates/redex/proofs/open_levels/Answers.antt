@@ -1,9 +1,6 @@
 use mathlib.Core.Path.{◌≡◌, subst, sym, ◌∙◌}
-use Prim.Native.Nat.{ℕ, ◌+◌, ◌*◌, ◌-◌}
+use Prim.Native.Nat.{ℕ, ◌+◌, ◌*◌}
 use native.Mathlib.Omega.{arith}
-use lib.ListN.{length}
-use Rattle.rules.specs.Syntax.{Term}
-use Rattle.place.specs.TermView.{TermAt}
 use Rattle.place.specs.TermPath.{TermWalk}
 use Rattle.place.proofs.TermPathLaws.{term_walk-end, term_walk-first, term_walk-next, term_walk-room, term_walk-start}
 use Rattle.redex.proofs.open_levels.Goals as goal

@@ -1,13 +1,7 @@
 -- Between two reductions a closed term stands, and what is left to run from it comes to the whole run.
-use mathlib.Core.Path.{sym, ◌∙◌, ◌≡◌, refl}
-use lib.ListN.{length}
+use mathlib.Core.Path.{sym, ◌∙◌, refl}
 use native.Mathlib.Omega.{arith}
-use borrow.Author.Rules.{rules}
-use Rattle.rules.specs.Syntax.{Term}
-use Rattle.record.specs.declared.Header.{Header}
-use Rattle.record.specs.Header.{contents_at, largest_of}
-use Rattle.reducing.specs.State.{Stands}
-use Rattle.reducer.proofs.RunningLaws.{Between, accepted-stands, between_ends, between-fits, between_left, between-on, between-ready, between_start, between-sums, looked}
+use Rattle.reducer.proofs.RunningLaws.{accepted-stands, between_ends, between-fits, between_left, between-on, between-ready, between_start, between-sums, looked}
 use Rattle.reducer.proofs.run_accepted.Goals as goal
 
 pub contents_at-contents-requires : goal.contents_at-contents-requires

@@ -1,5 +1,4 @@
 -- In each arm the rule is known: what the edit asks and what it makes are that rule's clauses.
-use borrow.Author.Rules.{rules}
 use mathlib.Core.Path.{refl}
 use Rattle.plan.specs.declared.Rule.TheVariants.{Bind, Evaluate, Finished, Leave, Over, Stop, Unroll}
 use Rattle.reducing.proofs.EditedLaws.{asks-by, edited-by}

@@ -1,5 +1,4 @@
 -- The numerals stored into the last term, and the bytes before it taken out, are one edit.
-use borrow.Author.Rules.{rules}
 use Rattle.reducing.proofs.EditedLaws.{filled_is}
 use Rattle.reducing.proofs.let_all.Goals as goal
 

@@ -1,5 +1,4 @@
 -- Every term that stands in the buffer has this plan, so the two calls are its reduction.
-use borrow.Author.Rules.{rules}
 use native.Mathlib.Omega.{arith}
 use Rattle.reducing.proofs.PerformLaws.{performs, ready-fits}
 use Rattle.record.proofs.HeaderLaws.{contents_at-low}

@@ -1,5 +1,4 @@
 -- The removal and the two stores are one edit.
-use borrow.Author.Rules.{rules}
 use Rattle.reducing.proofs.EditedLaws.{numeral-is}
 use Rattle.reducing.proofs.set_numeral.Goals as goal
 

@@ -1,5 +1,4 @@
 -- The start tuple moved down, and the bytes behind it taken out, are one edit.
-use borrow.Author.Rules.{rules}
 use mathlib.Core.Path.{refl}
 use Rattle.reducing.proofs.EditedLaws.{stopped-is}
 use Rattle.reducing.proofs.stop.Goals as goal

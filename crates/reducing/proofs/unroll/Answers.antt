@@ -1,5 +1,4 @@
 -- The room made and the three stores are one edit.
-use borrow.Author.Rules.{rules}
 use Rattle.place.proofs.UnrolledLaws.{unrolled-is}
 use Rattle.reducing.specs.Perform.{unrolled_at}
 use Rattle.reducing.proofs.unroll.Goals as goal

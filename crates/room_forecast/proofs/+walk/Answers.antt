@@ -1,9 +1,6 @@
 -- What is left to walk comes to the same longest; both the loop and the calls go on with a shorter row.
-use Prim.Native.Nat.{ℕ, ◌<◌, ◌-◌}
 use mathlib.Core.Path.{◌∙◌}
 use native.Mathlib.Omega.{arith}
-use Rattle.rules.specs.Syntax.{Block}
-use Rattle.room_forecast.specs.Walked.{Left, RowsTo, part_from}
 use Rattle.room_forecast.proofs.WalkedLaws.{Came, end_fits, left_end, left-fits, left-start, split-order, none-less, turn-left, turn-less, turn-none, turn-order, turn-rows, turn-short}
 use mathlib.Core.Logic.{inl, inr}
 use Rattle.room_forecast.proofs.+walk.Goals.{then-rest-inside, else-rest-inside}
@@ -37,7 +34,7 @@ overflow_sub-shorter t c =
     let left = c.loop-left.invariant c.requires.0.0 c.requires.0.1.0 in
     let parts = c.split-parts.ensures left.block left.rows in
     let came : Came (Unit {0}) (Unit {0}) c.split-parts.result c.if-rest-inside.left c.if-rest-inside.shorter =
-        elim c.if-rest-inside.branch [ then-rest-inside w ↦ inl (tt, w.left-is, w.shorter-is) | else-rest-inside w ↦ inr (tt, w.left-is, w.shorter-is) ] in
+    elim c.if-rest-inside.branch [ then-rest-inside w ↦ inl (tt, w.left-is, w.shorter-is) | else-rest-inside w ↦ inr (tt, w.left-is, w.shorter-is) ] in
     turn-order left parts c.if-inside.true came
 
 pub walk-most-requires : goal.walk-most-requires
@@ -45,7 +42,7 @@ walk-most-requires t c =
     let left = c.loop-left.invariant c.requires.0.0 c.requires.0.1.0 in
     let parts = c.split-parts.ensures left.block left.rows in
     let came : Came (Unit {0}) (Unit {0}) c.split-parts.result c.if-rest-inside.left c.if-rest-inside.shorter =
-        elim c.if-rest-inside.branch [ then-rest-inside w ↦ inl (tt, w.left-is, w.shorter-is) | else-rest-inside w ↦ inr (tt, w.left-is, w.shorter-is) ] in
+    elim c.if-rest-inside.branch [ then-rest-inside w ↦ inl (tt, w.left-is, w.shorter-is) | else-rest-inside w ↦ inr (tt, w.left-is, w.shorter-is) ] in
     let whole = c.decreases in
     let low = left.low in
     let high = left.high in
@@ -56,7 +53,7 @@ loop-left-smaller-then-shorter-ge20 t c =
     let left = c.loop-left.invariant c.requires.0.0 c.requires.0.1.0 in
     let parts = c.split-parts.ensures left.block left.rows in
     let came : Came (Unit {0}) (Unit {0}) c.split-parts.result c.if-rest-inside.left c.if-rest-inside.shorter =
-        elim c.if-rest-inside.branch [ then-rest-inside w ↦ inl (tt, w.left-is, w.shorter-is) | else-rest-inside w ↦ inr (tt, w.left-is, w.shorter-is) ] in
+    elim c.if-rest-inside.branch [ then-rest-inside w ↦ inl (tt, w.left-is, w.shorter-is) | else-rest-inside w ↦ inr (tt, w.left-is, w.shorter-is) ] in
     (turn-less left parts c.if-inside.true came c.loop-left-test.true).1
 
 pub loop-left-preserved-then-shorter-ge20 : goal.loop-left-preserved-then-shorter-ge20
@@ -65,7 +62,7 @@ loop-left-preserved-then-shorter-ge20 t c =
     let left = c.loop-left.invariant b h in
     let parts = c.split-parts.ensures left.block left.rows in
     let came : Came (Unit {0}) (Unit {0}) c.split-parts.result c.if-rest-inside.left c.if-rest-inside.shorter =
-        elim c.if-rest-inside.branch [ then-rest-inside w ↦ inl (tt, w.left-is, w.shorter-is) | else-rest-inside w ↦ inr (tt, w.left-is, w.shorter-is) ] in
+    elim c.if-rest-inside.branch [ then-rest-inside w ↦ inl (tt, w.left-is, w.shorter-is) | else-rest-inside w ↦ inr (tt, w.left-is, w.shorter-is) ] in
     turn-left left parts c.if-inside.true came _ c.walk-most.ensures
 
 pub loop-left-smaller-else-shorter-ge20 : goal.loop-left-smaller-else-shorter-ge20
@@ -73,7 +70,7 @@ loop-left-smaller-else-shorter-ge20 t c =
     let left = c.loop-left.invariant c.requires.0.0 c.requires.0.1.0 in
     let parts = c.split-parts.ensures left.block left.rows in
     let came : Came (Unit {0}) (Unit {0}) c.split-parts.result c.if-rest-inside.left c.if-rest-inside.shorter =
-        elim c.if-rest-inside.branch [ then-rest-inside w ↦ inl (tt, w.left-is, w.shorter-is) | else-rest-inside w ↦ inr (tt, w.left-is, w.shorter-is) ] in
+    elim c.if-rest-inside.branch [ then-rest-inside w ↦ inl (tt, w.left-is, w.shorter-is) | else-rest-inside w ↦ inr (tt, w.left-is, w.shorter-is) ] in
     (turn-less left parts c.if-inside.true came c.loop-left-test.true).1
 
 pub loop-left-preserved-else-shorter-ge20 : goal.loop-left-preserved-else-shorter-ge20
@@ -82,7 +79,7 @@ loop-left-preserved-else-shorter-ge20 t c =
     let left = c.loop-left.invariant b h in
     let parts = c.split-parts.ensures left.block left.rows in
     let came : Came (Unit {0}) (Unit {0}) c.split-parts.result c.if-rest-inside.left c.if-rest-inside.shorter =
-        elim c.if-rest-inside.branch [ then-rest-inside w ↦ inl (tt, w.left-is, w.shorter-is) | else-rest-inside w ↦ inr (tt, w.left-is, w.shorter-is) ] in
+    elim c.if-rest-inside.branch [ then-rest-inside w ↦ inl (tt, w.left-is, w.shorter-is) | else-rest-inside w ↦ inr (tt, w.left-is, w.shorter-is) ] in
     turn-short left parts c.if-inside.true came c.if-shorter-ge20.false
 
 pub loop-left-smaller : goal.loop-left-smaller

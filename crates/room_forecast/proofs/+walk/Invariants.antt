@@ -1,10 +1,7 @@
 -- What is left to walk comes to the same longest; both the loop and the calls go on with a shorter row.
-use Prim.Native.Nat.{ℕ, ◌<◌, ◌-◌}
-use mathlib.Core.Path.{◌∙◌}
-use native.Mathlib.Omega.{arith}
+use Prim.Native.Nat.{◌-◌}
 use Rattle.rules.specs.Syntax.{Block}
 use Rattle.room_forecast.specs.Walked.{Left, RowsTo, part_from}
-use Rattle.room_forecast.proofs.WalkedLaws.{end_fits, left_end, left-fits, left-start, split-order, none-less, turn-left, turn-less, turn-none, turn-order, turn-rows, turn-short}
 use Rattle.room_forecast.proofs.+walk.Given as goal
 
 abbrev pub decreases-walk : goal.decreases-walk

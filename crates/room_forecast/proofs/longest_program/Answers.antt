@@ -1,5 +1,4 @@
 -- With 0 for the number of variables the weights are those of a configuration.
-use borrow.Author.Rules.{rules}
 use mathlib.Core.Path.{ap, ◌∙◌}
 use Rattle.forecast.specs.Figures.{Weights, longest_of}
 use Rattle.room_forecast.proofs.WeightsLaws.{weights-program}

@@ -1,5 +1,4 @@
 -- From 1 on the weights are those of a term.
-use borrow.Author.Rules.{rules}
 use mathlib.Core.Path.{ap, ◌∙◌}
 use Rattle.forecast.specs.Figures.{Weights, longest_of}
 use Rattle.room_forecast.proofs.WeightsLaws.{weights-term}

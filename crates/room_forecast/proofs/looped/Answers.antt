@@ -1,5 +1,4 @@
 -- By whether the number of variables is 0.
-use borrow.Author.Rules.{rules}
 use mathlib.Core.Path.{sym}
 use native.Mathlib.Omega.{arith}
 use Rattle.room_forecast.proofs.WeightsLaws.{looped-program, looped-term}

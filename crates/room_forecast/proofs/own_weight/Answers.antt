@@ -1,5 +1,4 @@
 -- One law for each kind of command, told by where its inside starts; an assignment by its steps.
-use borrow.Author.Rules.{rules}
 use mathlib.Core.Path.{◌∙◌}
 use native.Mathlib.Omega.{arith}
 use Rattle.room_forecast.specs.Walked.{weights_of}

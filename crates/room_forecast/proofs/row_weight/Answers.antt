@@ -1,5 +1,4 @@
 -- The bytes of a row, or those of its translation without the head.
-use borrow.Author.Rules.{rules}
 use mathlib.Core.Path.{◌∙◌}
 use native.Mathlib.Omega.{arith}
 use Rattle.room_forecast.proofs.WeightsLaws.{weigh-bytes, weigh-term}

@@ -1,5 +1,4 @@
 -- What each function called says, handed to the laws of the split; no sum is above the most that the row comes to.
-use borrow.Author.Rules.{rules}
 use native.Mathlib.Omega.{arith}
 use Rattle.room_forecast.proofs.SplitLaws.{peak-fits, row_fits, split-both, split-opened, split-own, split-passed, split-past, split-row, turn-fits, waiting-fits}
 use Rattle.room_forecast.proofs.split.Goals as goal

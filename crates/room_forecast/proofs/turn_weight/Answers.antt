@@ -1,5 +1,4 @@
 -- The assignment of the index is a plain one, of 16 bytes under either weights.
-use borrow.Author.Rules.{rules}
 use native.Mathlib.Omega.{arith}
 use Rattle.forecast.specs.Figures.{turn_weight}
 use Rattle.room_forecast.proofs.WeightsLaws.{plain-weight}

@@ -1,5 +1,4 @@
 -- A loop alone starts its inside at 20.
-use borrow.Author.Rules.{rules}
 use native.Mathlib.Omega.{arith}
 use Rattle.room_forecast.proofs.PartsLaws.{unrolls-all, unrolls-none}
 use Rattle.room_forecast.proofs.unrolled.Goals as goal

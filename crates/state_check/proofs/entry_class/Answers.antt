@@ -1,11 +1,3 @@
-use borrow.Author.Rules.{rules}
-use Rattle.state_check.proofs.entry_class.Reads as reads
-use Rattle.state_check.proofs.entry_class.Lts as lts
-use Rattle.buffer.proofs.get_u16.Reads as get-u16-reads
-use Rattle.state_check.proofs.loop_class.Reads as loop-class-reads
-use Rattle.state_check.proofs.only_if.Reads as only-if-reads
-use Rattle.state_check.proofs.shut_class.Reads as shut-class-reads
-use Rattle.state_words.proofs.word.Reads as word-reads
 use native.Mathlib.Omega.{arith}
 use mathlib.Core.Path.{ap, ◌∙◌}
 use Prim.Native.Nat.{ℕ}

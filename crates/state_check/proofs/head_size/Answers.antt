@@ -1,5 +1,3 @@
-use Rattle.state_check.proofs.head_size.Reads as reads
-use Rattle.state_check.proofs.head_size.Lts as lts
 use Rattle.state_check.proofs.ClassLaws.{head-block, head-loop}
 use Rattle.state_check.proofs.head_size.Goals as goal
 

@@ -1,8 +1,3 @@
-use borrow.Author.Rules.{rules}
-use Rattle.state_check.proofs.last_right.Reads as reads
-use Rattle.state_check.proofs.last_right.Lts as lts
-use Rattle.buffer.proofs.get_u16.Reads as get-u16-reads
-use Rattle.state_words.proofs.word.Reads as word-reads
 use native.Mathlib.Omega.{arith}
 use mathlib.Core.Path.{sym, ◌∙◌}
 use Rattle.state_check.proofs.EntryLaws.{at_room, last-end, last_none, last-other, last-room, last_sum}

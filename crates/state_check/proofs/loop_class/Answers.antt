@@ -1,7 +1,3 @@
-use borrow.Author.Rules.{rules}
-use Rattle.state_check.proofs.loop_class.Reads as reads
-use Rattle.state_check.proofs.loop_class.Lts as lts
-use Rattle.state_check.proofs.only_if.Reads as only-if-reads
 use native.Mathlib.Omega.{arith}
 use mathlib.Core.Path.{◌∙◌}
 use Rattle.state_check.proofs.ClassLaws.{loop-at-0, loop-body, loop-low, loop-unrolling}

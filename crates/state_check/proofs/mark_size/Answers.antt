@@ -1,5 +1,3 @@
-use Rattle.state_check.proofs.mark_size.Reads as reads
-use Rattle.state_check.proofs.mark_size.Lts as lts
 use Rattle.state_check.proofs.ClassLaws.{mark-block, mark-loop}
 use Rattle.state_check.proofs.mark_size.Goals as goal
 

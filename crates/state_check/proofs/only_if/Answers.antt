@@ -1,5 +1,3 @@
-use Rattle.state_check.proofs.only_if.Reads as reads
-use Rattle.state_check.proofs.only_if.Lts as lts
 use Rattle.state_check.proofs.ClassLaws.{only-false, only-true}
 use Rattle.state_check.proofs.only_if.Goals as goal
 

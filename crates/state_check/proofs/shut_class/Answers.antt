@@ -1,7 +1,3 @@
-use borrow.Author.Rules.{rules}
-use Rattle.state_check.proofs.shut_class.Reads as reads
-use Rattle.state_check.proofs.shut_class.Lts as lts
-use Rattle.state_check.proofs.only_if.Reads as only-if-reads
 use Rattle.state_check.proofs.ClassLaws.{shut-last, shut-not}
 use Rattle.state_check.proofs.shut_class.Goals as goal
 

@@ -1,13 +1,9 @@
-use Rattle.state_check.proofs.stands_at.Reads as reads
-use Rattle.state_check.proofs.stands_at.Lts as lts
-use Rattle.buffer.proofs.get_u16.Reads as get-u16-reads
-use native.Mathlib.Omega.{arith}
 use mathlib.Core.Path.{◌≡◌}
 use Prim.Native.Nat.{◌+◌, ◌-◌}
 use Rattle.rules.specs.Syntax.{Block}
 use Rattle.record.specs.Program.{block_size}
 use Rattle.place.specs.ProgramView.{BlockAt}
-use Rattle.state_check.proofs.PlaceLaws.{Walked, walked_end, walked_here, walked-long, walked_next, walked-room, walked_start}
+use Rattle.state_check.proofs.PlaceLaws.{Walked}
 use Rattle.state_check.proofs.stands_at.Given as goal
 
 abbrev pub invariant-loop-q : goal.invariant-loop-q

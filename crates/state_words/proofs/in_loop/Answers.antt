@@ -1,4 +1,3 @@
-use borrow.Author.Rules.{rules}
 use Rattle.state_words.proofs.EntryLaws.{loop-last, loop-none}
 use Rattle.state_words.proofs.in_loop.Goals as goal
 

@@ -1,4 +1,3 @@
-use borrow.Author.Rules.{rules}
 use native.Mathlib.Omega.{arith}
 use Rattle.state_words.proofs.EntryLaws.{place-loop, place_other, place-room, place-word-low}
 use Rattle.state_words.proofs.place.Goals as goal

@@ -1,4 +1,3 @@
-use borrow.Author.Rules.{rules}
 use Rattle.state_words.proofs.EntryLaws.{place-word-0, place-word-suc}
 use Rattle.state_words.proofs.place_word.Goals as goal
 

@@ -1,4 +1,3 @@
-use borrow.Author.Rules.{rules}
 use Rattle.state_words.specs.Entry.{entry_pushed}
 use Rattle.state_words.proofs.push.Goals as goal
 

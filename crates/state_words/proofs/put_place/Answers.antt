@@ -1,4 +1,3 @@
-use borrow.Author.Rules.{rules}
 use native.Mathlib.Omega.{arith}
 use Rattle.state_words.proofs.EntryLaws.{put-loop, put_other, place-word-low}
 use Rattle.state_words.proofs.put_place.Goals as goal

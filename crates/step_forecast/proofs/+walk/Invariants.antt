@@ -1,9 +1,8 @@
-use Prim.Native.Nat.{ℕ, ◌<◌, ◌-◌}
-use native.Mathlib.Omega.{arith}
+use Prim.Native.Nat.{◌-◌}
 use lib.ListN.{length}
 use Rattle.rules.specs.Syntax.{Block}
 use Rattle.forecast.specs.Rows.{RowOf}
-use Rattle.step_forecast.proofs.LeftLaws.{Left, factor, halves, halves-done, halves-large, halves-none, in_order, left_end, left-start, own-large}
+use Rattle.step_forecast.proofs.LeftLaws.{Left}
 use Rattle.step_forecast.proofs.+walk.Given as goal
 
 abbrev pub decreases-walk : goal.decreases-walk

@@ -1,4 +1,3 @@
-use borrow.Author.Rules.{rules}
 use native.Mathlib.Omega.{arith}
 use Rattle.step_forecast.proofs.OpenLaws.{first-assign, first-loop, loop-room, open-assign, open_loop, open-nest, row-head, row_next}
 use Rattle.step_forecast.proofs.look.Goals as goal

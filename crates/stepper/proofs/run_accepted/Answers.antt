@@ -1,14 +1,7 @@
 -- Between two steps a configuration stands, and what is left to run from it comes to the whole run.
-use borrow.Author.Rules.{rules}
-use mathlib.Core.Path.{refl, sym, ◌∙◌, ◌≡◌}
-use lib.ListN.{length}
+use mathlib.Core.Path.{refl, sym, ◌∙◌}
 use native.Mathlib.Omega.{arith}
-use Rattle.rules.specs.Rules.{at}
-use Rattle.rules.specs.Syntax.{Block}
-use Rattle.stepping.specs.State.{Stands}
-use Rattle.stepper.proofs.RunningLaws.{Between, accepted-stands, between_ends, between_left, between-on, between-ready, between_start, between-sums, looked}
-use Rattle.record.specs.declared.Header.{Header}
-use Rattle.record.specs.Header.{contents_at, largest_of}
+use Rattle.stepper.proofs.RunningLaws.{accepted-stands, between_ends, between_left, between-on, between-ready, between_start, between-sums, looked}
 use Rattle.stepper.proofs.run_accepted.Goals as goal
 
 pub overflow_sub-room : goal.overflow_sub-room

@@ -1,12 +1,10 @@
 -- Between two steps a configuration stands, and what is left to run from it comes to the whole run.
-use borrow.Author.Rules.{rules}
-use mathlib.Core.Path.{refl, sym, ◌∙◌, ◌≡◌}
+use mathlib.Core.Path.{◌≡◌}
 use lib.ListN.{length}
-use native.Mathlib.Omega.{arith}
 use Rattle.rules.specs.Rules.{at}
 use Rattle.rules.specs.Syntax.{Block}
 use Rattle.stepping.specs.State.{Stands}
-use Rattle.stepper.proofs.RunningLaws.{Between, accepted-stands, between_ends, between_left, between-on, between-ready, between_start, between-sums, looked}
+use Rattle.stepper.proofs.RunningLaws.{Between}
 use Rattle.record.specs.declared.Header.{Header}
 use Rattle.record.specs.Header.{contents_at, largest_of}
 use Rattle.stepper.proofs.run_accepted.Given as goal

@@ -1,5 +1,4 @@
 -- One law for each way out: rows 1 to 5 and 15 by the checker, rows 6 and 16, and the run.
-use borrow.Author.Rules.{rules}
 use mathlib.Core.Path.{sym}
 use native.Mathlib.Omega.{arith}
 use Rattle.buffer.proofs.LittleEndianLaws.{bytes_of}

@@ -1,5 +1,4 @@
 -- In each arm the rule is known: what the edit asks and what it makes are that rule's clauses.
-use borrow.Author.Rules.{rules}
 use native.Mathlib.Omega.{arith}
 use Prim.Native.Nat.{◌+◌, ◌<◌, ◌≤◌}
 use mathlib.Core.Path.{◌∙◌, ap, subst, sym}

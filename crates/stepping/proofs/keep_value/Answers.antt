@@ -1,5 +1,4 @@
 -- In each arm the rule is known: only Bind changes the store.
-use borrow.Author.Rules.{rules}
 use mathlib.Core.Path.{◌∙◌, ap, subst, sym}
 use lib.ListN.{length}
 use Rattle.plan.specs.declared.Rule.{Rule}

@@ -1,5 +1,4 @@
 -- Every program that stands in the buffer has this plan, so the three calls are its step.
-use borrow.Author.Rules.{rules}
 use native.Mathlib.Omega.{arith}
 use Rattle.record.proofs.HeaderLaws.{contents_at-low}
 use Rattle.stepping.proofs.PerformLaws.{performs-is, ready-fits}

@@ -1,5 +1,4 @@
 -- The removal and the head are one edit.
-use borrow.Author.Rules.{rules}
 use Rattle.stepping.proofs.EditedLaws.{stopped-is}
 use Rattle.stepping.proofs.stop.Goals as goal
 

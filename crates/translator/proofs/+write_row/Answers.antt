@@ -1,10 +1,8 @@
 -- What is left to write, stored now, gives the whole; both the loop and the calls go on with a shorter row.
-use Prim.Native.Nat.{ℕ, ◌<◌, ◌-◌}
 use native.Mathlib.Omega.{arith}
 use mathlib.Core.Path.{refl, sym, ◌∙◌}
-use Rattle.translator.specs.TranslationTasks.{Left, TaskIn}
 use Rattle.translator.proofs.TaskLaws.{Came, end-room, head-room, left_end, left_one, left-start, one-room, turn-left, turn-less, turn-task, tuple-alone, tuple-room}
-use mathlib.Core.Logic.{◌⊎◌, inl, inr}
+use mathlib.Core.Logic.{inl, inr}
 use Rattle.translator.proofs.+write_row.Goals.{then-rest-inner, else-rest-inner}
 use Rattle.translator.proofs.+write_row.Goals as goal
 
@@ -73,7 +71,7 @@ write_row-requires t c =
     let s = c.loop-left.invariant c.requires.0 in
     let q = c.rows_of-parts.ensures s.task in
     let came : Came (Unit {0}) (Unit {0}) c.rows_of-parts.result c.if-rest-inner.left c.if-rest-inner.shorter =
-        elim c.if-rest-inner.branch [ then-rest-inner w ↦ inl (tt, w.left-is, w.shorter-is) | else-rest-inner w ↦ inr (tt, w.left-is, w.shorter-is) ] in
+    elim c.if-rest-inner.branch [ then-rest-inner w ↦ inl (tt, w.left-is, w.shorter-is) | else-rest-inner w ↦ inr (tt, w.left-is, w.shorter-is) ] in
     let low = s.low in
     let high = s.high in
     let m = turn-less s q _ c.write_let_all.ensures c.write_let_all.auto.out came in
@@ -85,7 +83,7 @@ loop-left-smaller-then-shorter t c =
     let s = c.loop-left.invariant c.requires.0 in
     let q = c.rows_of-parts.ensures s.task in
     let came : Came (Unit {0}) (Unit {0}) c.rows_of-parts.result c.if-rest-inner.left c.if-rest-inner.shorter =
-        elim c.if-rest-inner.branch [ then-rest-inner w ↦ inl (tt, w.left-is, w.shorter-is) | else-rest-inner w ↦ inr (tt, w.left-is, w.shorter-is) ] in
+    elim c.if-rest-inner.branch [ then-rest-inner w ↦ inl (tt, w.left-is, w.shorter-is) | else-rest-inner w ↦ inr (tt, w.left-is, w.shorter-is) ] in
     (turn-less s q _ c.write_let_all.ensures c.write_let_all.auto.out came).1
 
 pub loop-left-preserved-then-shorter : goal.loop-left-preserved-then-shorter
@@ -94,7 +92,7 @@ loop-left-preserved-then-shorter t c =
     let s = c.loop-left.invariant h in
     let q = c.rows_of-parts.ensures s.task in
     let came : Came (Unit {0}) (Unit {0}) c.rows_of-parts.result c.if-rest-inner.left c.if-rest-inner.shorter =
-        elim c.if-rest-inner.branch [ then-rest-inner w ↦ inl (tt, w.left-is, w.shorter-is) | else-rest-inner w ↦ inr (tt, w.left-is, w.shorter-is) ] in
+    elim c.if-rest-inner.branch [ then-rest-inner w ↦ inl (tt, w.left-is, w.shorter-is) | else-rest-inner w ↦ inr (tt, w.left-is, w.shorter-is) ] in
     turn-left s q _ c.write_let_all.ensures c.write_let_all.auto.out came _ c.write_row.ensures c.write_row.auto.out
 
 pub write_tuple-requires : goal.write_tuple-requires
@@ -102,7 +100,7 @@ write_tuple-requires t c =
     let s = c.loop-left.invariant c.requires.0 in
     let q = c.rows_of-parts.ensures s.task in
     let came : Came (Unit {0}) (Unit {0}) c.rows_of-parts.result c.if-rest-inner.left c.if-rest-inner.shorter =
-        elim c.if-rest-inner.branch [ then-rest-inner w ↦ inl (tt, w.left-is, w.shorter-is) | else-rest-inner w ↦ inr (tt, w.left-is, w.shorter-is) ] in
+    elim c.if-rest-inner.branch [ then-rest-inner w ↦ inl (tt, w.left-is, w.shorter-is) | else-rest-inner w ↦ inr (tt, w.left-is, w.shorter-is) ] in
     let m = turn-less s q _ c.write_let_all.ensures c.write_let_all.auto.out came in
     let task = turn-task s q _ c.write_let_all.ensures c.write_let_all.auto.out came in
     let stop = m.2 in
@@ -113,7 +111,7 @@ loop-left-smaller t c =
     let s = c.loop-left.invariant c.requires.0 in
     let q = c.rows_of-parts.ensures s.task in
     let came : Came (Unit {0}) (Unit {0}) c.rows_of-parts.result c.if-rest-inner.left c.if-rest-inner.shorter =
-        elim c.if-rest-inner.branch [ then-rest-inner w ↦ inl (tt, w.left-is, w.shorter-is) | else-rest-inner w ↦ inr (tt, w.left-is, w.shorter-is) ] in
+    elim c.if-rest-inner.branch [ then-rest-inner w ↦ inl (tt, w.left-is, w.shorter-is) | else-rest-inner w ↦ inr (tt, w.left-is, w.shorter-is) ] in
     (turn-less s q _ c.write_let_all.ensures c.write_let_all.auto.out came).1
 
 pub loop-left-preserved : goal.loop-left-preserved
@@ -122,7 +120,7 @@ loop-left-preserved t c =
     let s = c.loop-left.invariant h in
     let q = c.rows_of-parts.ensures s.task in
     let came : Came (Unit {0}) (Unit {0}) c.rows_of-parts.result c.if-rest-inner.left c.if-rest-inner.shorter =
-        elim c.if-rest-inner.branch [ then-rest-inner w ↦ inl (tt, w.left-is, w.shorter-is) | else-rest-inner w ↦ inr (tt, w.left-is, w.shorter-is) ] in
+    elim c.if-rest-inner.branch [ then-rest-inner w ↦ inl (tt, w.left-is, w.shorter-is) | else-rest-inner w ↦ inr (tt, w.left-is, w.shorter-is) ] in
     turn-left s q _ c.write_let_all.ensures c.write_let_all.auto.out came _ (λ g. c.write_tuple.ensures ∙ tuple-alone g c.if-shorter.false _) c.write_tuple.auto.out
 
 pub write_tuple-requires-2 : goal.write_tuple-requires-2

@@ -1,9 +1,6 @@
 -- What is left to write, stored now, gives the whole; both the loop and the calls go on with a shorter row.
-use Prim.Native.Nat.{ℕ, ◌<◌, ◌-◌}
-use native.Mathlib.Omega.{arith}
-use mathlib.Core.Path.{refl, sym, ◌∙◌}
+use Prim.Native.Nat.{◌-◌}
 use Rattle.translator.specs.TranslationTasks.{Left, TaskIn}
-use Rattle.translator.proofs.TaskLaws.{end-room, head-room, left_end, left_one, left-start, one-room, turn-left, turn-less, turn-task, tuple-alone, tuple-room}
 use Rattle.translator.proofs.+write_row.Given as goal
 
 abbrev pub decreases-write_row : goal.decreases-write_row

@@ -1,5 +1,4 @@
 -- The size by the kind read.
-use borrow.Author.Rules.{rules}
 use mathlib.Core.Path.{sym}
 use Rattle.translator.proofs.TranslationHeadsLaws.{let_one_size-high, let_one_size-low}
 use Rattle.translator.proofs.let_one_size.Goals as goal

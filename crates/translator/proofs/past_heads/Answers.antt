@@ -1,5 +1,4 @@
 -- Both places by the kind read; the row has room for the heads.
-use borrow.Author.Rules.{rules}
 use native.Mathlib.Omega.{arith}
 use mathlib.Core.Path.{sym, ◌∙◌}
 use Rattle.translator.proofs.TaskLaws.{head-room, loop-room, past-loop, past-nest}

@@ -1,11 +1,7 @@
 -- What was counted and what is left make up the translation, and one tuple more; nothing counted comes near a wrap.
-use native.Mathlib.Omega.{arith}
-use mathlib.Core.Path.{sym, ◌∙◌}
 use Prim.Native.Nat.{◌-◌}
 use Rattle.translator.specs.RowScan.{Scanned}
 use Rattle.translator.specs.RowTranslation.{RowAt}
-use Rattle.translator.proofs.RowScanLaws.{scan-bound, scan-end, scan-start, scan_step}
-use Rattle.translator.proofs.RowViewLaws.{row-four, row_room, step-assign, step_loop, step-nest}
 use Rattle.translator.proofs.row_size.Given as goal
 
 abbrev pub invariant-loop-at : goal.invariant-loop-at

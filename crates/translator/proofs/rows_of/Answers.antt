@@ -1,5 +1,4 @@
 -- The row that was measured tells where the other begins.
-use borrow.Author.Rules.{rules}
 use native.Mathlib.Omega.{arith}
 use Rattle.translator.proofs.TaskLaws.{head-room, inner-row, parts-inner, parts-rest, rest-row, rows-order, rows-size}
 use Rattle.translator.proofs.rows_of.Goals as goal

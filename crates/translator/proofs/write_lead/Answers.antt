@@ -1,5 +1,4 @@
 -- The numbers read are those of the lead.
-use borrow.Author.Rules.{rules}
 use mathlib.Core.Path.{ap, ◌∙◌}
 use Rattle.buffer.specs.Slice.{put}
 use Rattle.translator.proofs.TranslationHeadsLaws.{lead-reads}

@@ -1,5 +1,4 @@
 -- The stores in a row are the head of the let-one, by what its expression is.
-use borrow.Author.Rules.{rules}
 use mathlib.Core.Path.{ap, sym, ◌∙◌}
 use Prim.Native.Nat.{ℕ, ◌+◌}
 use native.Mathlib.Omega.{arith}

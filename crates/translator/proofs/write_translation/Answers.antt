@@ -1,12 +1,4 @@
 -- The header, the row and the zeros, stored one after the other.
-use borrow.Author.Rules.{rules}
-use Rattle.translator.proofs.write_translation.Reads as reads
-use Rattle.translator.proofs.write_translation.Lts as lts
-use Rattle.buffer.proofs.zero.Reads as zero-reads
-use Rattle.edit.proofs.put_header.Reads as put-header-reads
-use Rattle.record.proofs.Header.contents_at.Reads as contents-at-reads
-use Rattle.translator.proofs.translation_size.Reads as translation-size-reads
-use Rattle.translator.proofs.write_row.Reads as write-row-reads
 use native.Mathlib.Omega.{arith}
 use mathlib.Core.Path.{◌∙◌}
 use Rattle.translator.proofs.ProgramTaskLaws.{program-task, term-length, term-stores, term-bound}

@@ -1,11 +1,10 @@
 -- What is left to write of the atoms, stored now, gives all of them.
 use native.Mathlib.Omega.{arith}
-use mathlib.Core.Path.{◌≡◌, refl, sym, ◌∙◌, ap}
-use Prim.Native.Nat.{◌*◌, ◌+◌, ◌-◌, ◌≤◌, ℕ}
-use lib.ListN.{length}
+use mathlib.Core.Path.{refl, sym, ◌∙◌, ap}
+use Prim.Native.Nat.{ℕ}
 use Rattle.buffer.specs.Slice.{put}
 use Rattle.place.specs.Heads.{record_head}
-use Rattle.translator.proofs.TupleLaws.{all-stores, atoms-end, atoms-turn, atoms_from}
+use Rattle.translator.proofs.TupleLaws.{all-stores, atoms-end, atoms-turn}
 use Rattle.translator.proofs.write_tuple.Goals as goal
 
 pub tuple_size-requires : goal.tuple_size-requires

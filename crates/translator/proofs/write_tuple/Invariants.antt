@@ -1,11 +1,9 @@
 -- What is left to write of the atoms, stored now, gives all of them.
-use native.Mathlib.Omega.{arith}
-use mathlib.Core.Path.{◌≡◌, refl, sym, ◌∙◌, ap}
-use Prim.Native.Nat.{◌*◌, ◌+◌, ◌-◌, ◌≤◌, ℕ}
+use mathlib.Core.Path.{◌≡◌}
+use Prim.Native.Nat.{◌*◌, ◌+◌, ◌-◌, ◌≤◌}
 use lib.ListN.{length}
 use Rattle.buffer.specs.Slice.{put}
-use Rattle.place.specs.Heads.{record_head}
-use Rattle.translator.proofs.TupleLaws.{all-stores, atoms-end, atoms-turn, atoms_from}
+use Rattle.translator.proofs.TupleLaws.{atoms_from}
 use Rattle.translator.proofs.write_tuple.Given as goal
 
 abbrev pub invariant-loop-x : goal.invariant-loop-x

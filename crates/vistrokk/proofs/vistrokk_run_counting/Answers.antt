@@ -1,8 +1,3 @@
-use borrow.Author.Rules.{rules}
-use Rattle.vistrokk.proofs.vistrokk_run_counting.Reads as reads
-use Rattle.vistrokk.proofs.vistrokk_run_counting.Lts as lts
-use Rattle.counter.proofs.answer.in_numbers.Reads as in-numbers-reads
-use Rattle.counter.proofs.run_counting.Reads as run-counting-reads
 use mathlib.Core.Path.{ap, ◌∙◌}
 use Rattle.counter.specs.Represents.{in_numbers}
 use Rattle.vistrokk.proofs.vistrokk_run_counting.Goals as goal

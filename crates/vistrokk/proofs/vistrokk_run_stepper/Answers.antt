@@ -1,5 +1,4 @@
 -- The call answers, and its answer is handed over in numbers.
-use borrow.Author.Rules.{rules}
 use mathlib.Core.Path.{ap, ◌∙◌}
 use Rattle.run.specs.Represents.{in_numbers}
 use Rattle.vistrokk.proofs.vistrokk_run_stepper.Goals as goal

@@ -1,5 +1,4 @@
 -- One law for each rule, and one for any other number.
-use borrow.Author.Rules.{rules}
 use native.Mathlib.Omega.{arith}
 use Rattle.weighing.proofs.WeighLaws.{count_down, count-nearest, count_none}
 use Rattle.weighing.proofs.count_of.Goals as goal

@@ -1,11 +1,9 @@
 -- After i values were written the first i are those of a weighed store. The length at the loop's start is the lent one's.
-use borrow.Author.Rules.{rules}
 use native.Mathlib.Omega.{arith}
-use Prim.Native.Nat.{◌-◌, ℕ, ◌≤◌}
+use Prim.Native.Nat.{ℕ}
 use mathlib.Core.List.{List}
 use mathlib.Core.Path.{◌≡◌, refl, ◌∙◌}
-use lib.ListN.{length, length-set, set, take}
-use Rattle.weighing.specs.Weigh.{weighed}
+use lib.ListN.{length, length-set, set}
 use Rattle.weighing.proofs.FillLaws.{fill-first, fill-last, fill-next, fill-second}
 use Rattle.weighing.proofs.fill.Goals as goal
 

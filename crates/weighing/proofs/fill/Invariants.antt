@@ -1,12 +1,8 @@
 -- After i values were written the first i are those of a weighed store. The length at the loop's start is the lent one's.
-use borrow.Author.Rules.{rules}
-use native.Mathlib.Omega.{arith}
-use Prim.Native.Nat.{◌-◌, ℕ, ◌≤◌}
-use mathlib.Core.List.{List}
-use mathlib.Core.Path.{◌≡◌, refl, ◌∙◌}
-use lib.ListN.{length, length-set, set, take}
+use Prim.Native.Nat.{◌-◌, ◌≤◌}
+use mathlib.Core.Path.{◌≡◌}
+use lib.ListN.{length, take}
 use Rattle.weighing.specs.Weigh.{weighed}
-use Rattle.weighing.proofs.FillLaws.{fill-first, fill-last, fill-next, fill-second}
 use Rattle.weighing.proofs.fill.Given as goal
 
 abbrev pub invariant-loop-i : goal.invariant-loop-i

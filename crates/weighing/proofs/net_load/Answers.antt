@@ -1,5 +1,4 @@
 -- What the code takes off the larger is the smaller.
-use borrow.Author.Rules.{rules}
 use native.Mathlib.Omega.{arith}
 use Rattle.weighing.proofs.WeighLaws.{net-larger, net-load}
 use Rattle.weighing.proofs.net_load.Goals as goal

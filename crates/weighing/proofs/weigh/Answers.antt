@@ -1,5 +1,4 @@
 -- One law for each way out: filled; row 11 below 1 and above 2; row 6 below 1 and above 16.
-use borrow.Author.Rules.{rules}
 use native.Mathlib.Omega.{arith}
 use Rattle.weighing.proofs.WeighLaws.{weigh-eleven, weigh-filled, weigh-six}
 use Rattle.weighing.proofs.weigh.Goals as goal

@@ -1,15 +1,8 @@
 -- After i values the first i are 0.
-use Rattle.batch.proofs.job.clear.Reads as reads
-use Rattle.batch.proofs.job.clear.Lts as lts
-use native.Mathlib.Omega.{arith}
-use Prim.Native.Nat.{◌-◌, ◌≤◌, ℕ}
-use mathlib.Core.Path.{◌≡◌, refl, sym, ◌∙◌, ap}
-use lib.ListN.{length, length-set, set}
+use Prim.Native.Nat.{◌-◌, ◌≤◌}
+use mathlib.Core.Path.{◌≡◌}
+use lib.ListN.{length}
 use Rattle.buffer.specs.Slice.{put, zeros}
-use Rattle.buffer.proofs.SliceLaws.{put-nil, zeroed-next}
-use Rattle.batch.proofs.JobLaws.{cleared}
-use borrow.Author.Rules.{rules}
-use native.Mathlib.Nat.{zero-add}
 use Rattle.batch.proofs.job.clear.Given as goal
 
 abbrev pub invariant-loop-i : goal.invariant-loop-i

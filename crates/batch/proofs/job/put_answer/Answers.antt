@@ -1,10 +1,4 @@
 -- Outcome and count in front, and the values behind them.
-use borrow.Author.Rules.{rules}
-use Rattle.batch.proofs.job.put_answer.Reads as reads
-use Rattle.batch.proofs.job.put_answer.Lts as lts
-use Rattle.batch.proofs.job.put_front.Reads as put-front-reads
-use Rattle.batch.proofs.job.put_values.Reads as put-values-reads
-use Rattle.run.proofs.in_numbers.Reads as in-numbers-reads
 use mathlib.Core.Path.{◌∙◌, ap}
 use native.Mathlib.Omega.{arith}
 use Rattle.run.specs.declared.RunNumbers.{RunNumbers}

@@ -1,7 +1,4 @@
 -- The first two places are written over, and the others stay.
-use borrow.Author.Rules.{rules}
-use Rattle.batch.proofs.job.put_front.Reads as reads
-use Rattle.batch.proofs.job.put_front.Lts as lts
 use Rattle.batch.proofs.JobLaws.{front-put}
 use Rattle.batch.proofs.job.put_front.Goals as goal
 

@@ -1,9 +1,4 @@
 -- The numerals of a finished term, or zeros.
-use borrow.Author.Rules.{rules}
-use Rattle.batch.proofs.job.put_values.Reads as reads
-use Rattle.batch.proofs.job.put_values.Lts as lts
-use Rattle.batch.proofs.job.clear.Reads as clear_reads
-use Rattle.numerals.proofs.copy_numerals.Reads as copy-numerals-reads
 use mathlib.Core.Path.{◌∙◌, ap}
 use Rattle.buffer.specs.Slice.{zeros}
 use Rattle.batch.proofs.job.put_values.Goals as goal

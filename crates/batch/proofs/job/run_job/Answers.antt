@@ -1,11 +1,4 @@
 -- The term is copied, the store filled in, and what is run is accepted: the run is that of the job alone.
-use borrow.Author.Rules.{rules}
-use Rattle.batch.proofs.job.run_job.Reads as reads
-use Rattle.batch.proofs.job.run_job.Lts as lts
-use Rattle.batch.proofs.job.put_answer.Reads as put-answer-reads
-use Rattle.moves.proofs.copy.Reads as copy-reads
-use Rattle.reducer.proofs.run_accepted.Reads as run-accepted-reads
-use Rattle.substitution.proofs.substitute.substitute_record.Reads as substitute-record-reads
 use mathlib.Core.Path.{◌∙◌, subst}
 use native.Mathlib.Omega.{arith}
 use Prim.Native.Nat.{ℕ}

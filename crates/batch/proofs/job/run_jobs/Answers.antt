@@ -1,15 +1,11 @@
 -- After i jobs their answers stand in front; with those of the other jobs behind them they are all the answers.
-use Rattle.batch.proofs.job.run_jobs.Reads as reads
-use Rattle.batch.proofs.job.run_jobs.Lts as lts
-use Rattle.batch.proofs.job.run_job.Reads as run-job-reads
-use mathlib.Core.Path.{◌∙◌, ◌≡◌, refl}
+use mathlib.Core.Path.{◌∙◌, refl}
 use native.Mathlib.Omega.{arith}
 use Rattle.record.specs.Header.{ok_of}
 use Rattle.rules.proofs.LiteralsLaws.{small-drop, small-take}
-use borrow.Author.Rules.{rules}
 use Prim.Native.Nat.{◌*◌, ◌+◌, ◌-◌, ◌≤◌}
 use lib.ListN.{drop, length, take}
-use Rattle.batch.proofs.AnswersLaws.{Done, done-start, done-turn, done-whole, row_fits, rows-small}
+use Rattle.batch.proofs.AnswersLaws.{done-start, done-turn, done-whole, row_fits, rows-small}
 use Rattle.batch.proofs.job.run_jobs.Goals as goal
 
 pub overflow_cast-k : goal.overflow_cast-k

@@ -1,4 +1,3 @@
-use borrow.Author.Rules.{rules}
 use Rattle.count_step.proofs.ShapeLaws.{holds-reads, open-room, way-here, way-shut, way-sum}
 use Rattle.count_step.proofs.WholeLaws.{is-shut, is_sum, makes-shut, makes-sum, opened-makes, opened-stands}
 use Rattle.count_step.proofs.make.make.Goals as goal

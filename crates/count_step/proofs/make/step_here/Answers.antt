@@ -1,4 +1,3 @@
-use borrow.Author.Rules.{rules}
 use Rattle.count_step.proofs.FlatLaws.{flat-assign, flat-end, flat-here, flat-loop, makes-assign, makes-end, makes-loop}
 use Rattle.count_step.proofs.StandingLaws.{here-asks}
 use Rattle.count_step.proofs.make.step_here.Goals as goal

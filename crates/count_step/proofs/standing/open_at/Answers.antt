@@ -1,4 +1,3 @@
-use borrow.Author.Rules.{rules}
 use mathlib.Core.Path.{sym, ◌∙◌}
 use Rattle.count_step.proofs.StandingLaws.{opened-start}
 use Rattle.count_step.proofs.standing.open_at.Goals as goal

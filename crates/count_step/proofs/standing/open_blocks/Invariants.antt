@@ -1,14 +1,12 @@
-use native.Mathlib.Omega.{arith}
-use mathlib.Core.Path.{◌≡◌, refl, sym, ◌∙◌}
+use mathlib.Core.Path.{◌≡◌}
 use mathlib.Core.List.{List}
-use Prim.Native.Nat.{ℕ, ◌+◌, ◌-◌}
+use Prim.Native.Nat.{ℕ, ◌-◌}
 use lib.ListN.{length}
 use Rattle.rules.specs.Syntax.{Block}
 use Rattle.counting.specs.Counting.{here}
 use Rattle.counting.specs.Entries.{Entry}
 use Rattle.count_step.specs.Inner.{Inner}
 use Rattle.count_step.specs.Standing.{Opened}
-use Rattle.count_step.proofs.StandingLaws.{here-asks, opened-asks, opened-on, opened-start}
 use Rattle.count_step.proofs.standing.open_blocks.Given as goal
 
 abbrev pub invariant-loop-words : goal.invariant-loop-words

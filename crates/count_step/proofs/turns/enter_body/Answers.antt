@@ -1,4 +1,3 @@
-use borrow.Author.Rules.{rules}
 use Rattle.count_step.proofs.WordsLaws.{body_is}
 use Rattle.count_step.proofs.turns.enter_body.Goals as goal
 

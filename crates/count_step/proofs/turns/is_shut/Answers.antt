@@ -1,4 +1,3 @@
-use borrow.Author.Rules.{rules}
 use native.Mathlib.Omega.{arith}
 use Rattle.state_words.proofs.EntryLaws.{place-word-low}
 use Rattle.count_step.proofs.WordsLaws.{shut-other, shut-place}

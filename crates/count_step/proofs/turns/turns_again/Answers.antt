@@ -1,4 +1,3 @@
-use borrow.Author.Rules.{rules}
 use Rattle.count_step.proofs.WordsLaws.{again-loop, again-other}
 use Rattle.count_step.proofs.turns.turns_again.Goals as goal
 

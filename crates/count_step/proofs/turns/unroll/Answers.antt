@@ -1,4 +1,3 @@
-use borrow.Author.Rules.{rules}
 use Rattle.count_step.proofs.WordsLaws.{unrolled-0, unrolled-suc}
 use Rattle.count_step.proofs.turns.unroll.Goals as goal
 

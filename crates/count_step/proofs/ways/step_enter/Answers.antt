@@ -1,4 +1,3 @@
-use borrow.Author.Rules.{rules}
 use native.Mathlib.Omega.{arith}
 use mathlib.Core.Path.{◌∙◌}
 use Rattle.count_step.proofs.CodeLaws.{loop-asks, loop-makes, loop-makes-0}

@@ -1,5 +1,4 @@
 -- The run's own numbers, but for the used length.
-use borrow.Author.Rules.{rules}
 use mathlib.Core.Path.{refl}
 use Rattle.counter.proofs.answer.in_numbers.Goals as goal
 

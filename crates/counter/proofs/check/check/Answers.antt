@@ -1,5 +1,4 @@
 -- The rows of the record, and then the others.
-use borrow.Author.Rules.{rules}
 use native.Mathlib.Omega.{arith}
 use Rattle.buffer.proofs.LittleEndianLaws.{bytes_of}
 use Rattle.counter.proofs.CheckLaws.{gives-lent, gives-record, lent-to, program-read}

@@ -1,5 +1,4 @@
 -- One law for each way out: one of rows 1 to 5, row 12, and row 15 or none.
-use borrow.Author.Rules.{rules}
 use mathlib.Core.Path.{ap, sym}
 use Prim.Native.Nat.{◌+◌, ℕ}
 use native.Mathlib.Omega.{arith}

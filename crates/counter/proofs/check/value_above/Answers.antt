@@ -1,5 +1,4 @@
 -- The store's values first, and then the state's.
-use borrow.Author.Rules.{rules}
 use mathlib.Core.Path.{ap, sym, ◌∙◌}
 use mathlib.Core.Bool.{not}
 use Rattle.rules.specs.Store.{up_to}

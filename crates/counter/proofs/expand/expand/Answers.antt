@@ -1,11 +1,3 @@
-use borrow.Author.Rules.{rules}
-use Rattle.counter.proofs.expand.expand.Reads as reads
-use Rattle.counter.proofs.expand.expand.Lts as lts
-use Rattle.checker.proofs.too_long.Reads as too-long-reads
-use Rattle.counter.proofs.check.check.Reads as check-reads
-use Rattle.counter.proofs.expand.expand_accepted.Reads as expand-accepted-reads
-use Rattle.record.proofs.read_header.Reads as read-header-reads
-use Rattle.term.proofs.refused.Reads as refused-reads
 use mathlib.Core.Path.{sym, ◌∙◌}
 use native.Mathlib.Omega.{arith}
 use Rattle.buffer.proofs.LittleEndianLaws.{bytes_of}

@@ -1,13 +1,5 @@
 use borrow.Author.Rules.{rules}
-use Rattle.counter.proofs.expand.expand_accepted.Reads as reads
-use Rattle.counter.proofs.expand.expand_accepted.Lts as lts
-use Rattle.counter.proofs.expand.fits.Reads as fits-reads
-use Rattle.counter.proofs.expand.write_record.Reads as write-record-reads
-use Rattle.expansion.proofs.expansion_size.Reads as expansion-size-reads
-use Rattle.record.proofs.Header.contents_at.Reads as contents-at-reads
-use Rattle.term.proofs.refused.Reads as refused-reads
-use Rattle.term.proofs.wrote.Reads as wrote-reads
-use mathlib.Core.Path.{ap, ◌∙◌}
+use mathlib.Core.Path.{ap}
 use Prim.Native.Nat.{◌+◌, ℕ}
 use native.Mathlib.Omega.{arith}
 use Rattle.term.proofs.AnsweredLaws.{answers}

@@ -1,5 +1,3 @@
-use Rattle.counter.proofs.expand.fits.Reads as reads
-use Rattle.counter.proofs.expand.fits.Lts as lts
 use Rattle.counter.proofs.ExpandLaws.{no_room, room-behind}
 use Rattle.counter.proofs.expand.fits.Goals as goal
 

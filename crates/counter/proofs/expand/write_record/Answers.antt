@@ -1,11 +1,4 @@
 use borrow.Author.Rules.{rules}
-use Rattle.counter.proofs.expand.write_record.Reads as reads
-use Rattle.counter.proofs.expand.write_record.Lts as lts
-use Rattle.buffer.proofs.zero.Reads as zero-reads
-use Rattle.edit.proofs.put_head.Reads as put-head-reads
-use Rattle.edit.proofs.put_header.Reads as put-header-reads
-use Rattle.expansion.proofs.write_expansion.Reads as write-expansion-reads
-use Rattle.record.proofs.Header.contents_at.Reads as contents-at-reads
 use mathlib.Core.Path.{ap, ◌∙◌}
 use Prim.Native.Nat.{◌+◌, ℕ}
 use native.Mathlib.Omega.{arith}

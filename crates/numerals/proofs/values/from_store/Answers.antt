@@ -1,12 +1,7 @@
 -- After i turns the array stands for the first i values of the store.
-use Prim.Native.Nat.{◌-◌, ◌≤◌}
-use mathlib.Core.Path.{◌≡◌}
 use native.Mathlib.Omega.{arith}
-use lib.ListN.{length, length-set, take}
-use Rattle.rules.specs.Substitution.{from_store}
-use Rattle.numerals.specs.Values.{substitution_of}
+use lib.ListN.{length-set}
 use Rattle.numerals.proofs.ValuesLaws.{blank, built-all, built-next, built-none, length-blank}
-use borrow.Author.Rules.{rules}
 use Rattle.numerals.proofs.values.from_store.Goals as goal
 
 pub loop-i-init : goal.loop-i-init

@@ -1,12 +1,9 @@
 -- After i turns the array stands for the first i values of the store.
 use Prim.Native.Nat.{◌-◌, ◌≤◌}
 use mathlib.Core.Path.{◌≡◌}
-use native.Mathlib.Omega.{arith}
-use lib.ListN.{length, length-set, take}
+use lib.ListN.{length, take}
 use Rattle.rules.specs.Substitution.{from_store}
 use Rattle.numerals.specs.Values.{substitution_of}
-use Rattle.numerals.proofs.ValuesLaws.{blank, built-all, built-next, built-none, length-blank}
-use borrow.Author.Rules.{rules}
 use Rattle.numerals.proofs.values.from_store.Given as goal
 
 abbrev pub invariant-loop-i : goal.invariant-loop-i

@@ -1,16 +1,10 @@
 -- After i turns the array stands for the first i numerals.
-use borrow.Author.Rules.{rules}
-use Prim.Native.Nat.{ℕ, ◌-◌, ◌<◌, ◌≤◌}
-use mathlib.Core.List.{List, map}
-use mathlib.Core.Path.{◌≡◌, ◌∙◌}
+use Prim.Native.Nat.{◌<◌}
+use mathlib.Core.Path.{◌∙◌}
 use native.Mathlib.Omega.{arith}
-use lib.ListN.{length, length-set, take}
-use Rattle.rules.specs.Substitution.{from_store}
-use Rattle.rules.specs.Syntax.{num, tuple}
-use Rattle.place.specs.TermView.{TermAt}
+use lib.ListN.{length, length-set}
 use Rattle.place.proofs.NumeralsLaws.{numerals-row}
 use Rattle.place.proofs.TermViewLaws.{term-room}
-use Rattle.numerals.specs.Values.{substitution_of}
 use Rattle.numerals.proofs.ValuesLaws.{blank, built-all, built-next, built-none, length-blank}
 use Rattle.numerals.proofs.values.from_tuple.Goals as goal
 

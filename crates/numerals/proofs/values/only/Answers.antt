@@ -1,5 +1,4 @@
 -- The one store into an array in which every variable stays.
-use borrow.Author.Rules.{rules}
 use lib.ListN.{length-set}
 use Rattle.numerals.proofs.ValuesLaws.{blank, length-blank, values-only}
 use Rattle.numerals.proofs.values.only.Goals as goal

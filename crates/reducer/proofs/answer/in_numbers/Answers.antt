@@ -1,5 +1,4 @@
 -- The run's own numbers, and the count beside them.
-use borrow.Author.Rules.{rules}
 use mathlib.Core.Path.{refl}
 use Rattle.reducer.proofs.answer.in_numbers.Goals as goal
 

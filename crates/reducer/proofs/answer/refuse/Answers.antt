@@ -1,5 +1,4 @@
 -- A refused run's answer, and no variable.
-use borrow.Author.Rules.{rules}
 use mathlib.Core.Path.{refl}
 use Rattle.reducer.proofs.answer.refuse.Goals as goal
 

@@ -1,5 +1,4 @@
 -- One law for each way out.
-use borrow.Author.Rules.{rules}
 use native.Mathlib.Omega.{arith}
 use mathlib.Core.Path.{◌∙◌, sym}
 use lib.Seq.{length-take-le}

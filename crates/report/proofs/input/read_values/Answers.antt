@@ -1,9 +1,8 @@
 -- After i turns the first i values stand in the store.
-use borrow.Author.Rules.{rules}
 use native.Mathlib.Omega.{arith}
 use mathlib.Core.Path.{◌≡◌, ◌∙◌, ap, refl}
-use Prim.Native.Nat.{◌-◌, ◌≤◌, ℕ}
-use lib.ListN.{length, length-set, take}
+use Prim.Native.Nat.{ℕ}
+use lib.ListN.{length, length-set}
 use Rattle.report.specs.Line.{values_in}
 use Rattle.report.proofs.InputLaws.{none_read, value_read, values-read}
 use Rattle.report.proofs.input.read_values.Goals as goal

@@ -1,20 +1,6 @@
 -- One law for each way out. That the buffers take what is accepted needs no input, only the check's answer.
-use borrow.Author.Rules.{rules}
-use Rattle.report.proofs.line.line.Reads as reads
-use Rattle.report.proofs.line.line.Lts as lts
-use Rattle.buffer.proofs.get_u16.Reads as get-u16-reads
-use Rattle.buffer.proofs.zero.Reads as zero-reads
-use Rattle.checker.proofs.some_above.Reads as some-above-reads
-use Rattle.print.proofs.put_refused.Reads as put-refused-reads
-use Rattle.record.proofs.Header.largest.Reads as largest-reads
-use Rattle.record.proofs.read_header.Reads as read-header-reads
-use Rattle.report.proofs.input.check_input.Reads as check-input-reads
-use Rattle.report.proofs.input.read_values.Reads as read-values-reads
-use Rattle.report.proofs.line.run_both.Reads as run-both-reads
-use Rattle.term.proofs.translate.translate.Reads as translate-reads
 use native.Mathlib.Omega.{arith}
-use mathlib.Core.Path.{◌∙◌, ap, sym}
-use Prim.Native.Nat.{ℕ}
+use mathlib.Core.Path.{◌∙◌, sym}
 use lib.Seq.{length-take-le}
 use Rattle.checker.specs.Answer.{as_checked}
 use Rattle.record.specs.Header.{header_in}

@@ -1,11 +1,4 @@
 -- Each call is given what the one before it left.
-use borrow.Author.Rules.{rules}
-use Rattle.report.proofs.line.run_both.Reads as reads
-use Rattle.report.proofs.line.run_both.Lts as lts
-use Rattle.print.proofs.put_ran.Reads as put-ran-reads
-use Rattle.reducer.proofs.run_reducer.Reads as run-reducer-reads
-use Rattle.stepper.proofs.run_stepper.Reads as run-stepper-reads
-use Rattle.term.proofs.substitute.substitute.Reads as substitute-reads
 use native.Mathlib.Omega.{arith}
 use mathlib.Core.Path.{◌∙◌}
 use Rattle.report.proofs.LineLaws.{runs-answer}

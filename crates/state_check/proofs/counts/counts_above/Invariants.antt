@@ -1,14 +1,11 @@
 -- From each entry on, the test of what is left is that of all.
 use Prim.Native.Nat.{◌-◌}
-use mathlib.Core.Path.{ap, sym, ◌∙◌, ◌≡◌}
-use mathlib.Core.Bool.{not}
-use native.Mathlib.Omega.{arith}
+use mathlib.Core.Path.{◌≡◌}
 use Rattle.rules.specs.Literals.{small_values}
 use Rattle.rules.specs.Store.{up_to}
 use Rattle.counting.specs.SmallState.{counts_of}
 use Rattle.counting.specs.StateWords.{unpacked}
-use Rattle.canonical.proofs.HeldLaws.{from-few}
-use Rattle.state_check.proofs.CountsLaws.{Looked, counts_all, counts-last, counts_behind, looked-on, none_above, some-above}
+use Rattle.state_check.proofs.CountsLaws.{Looked, counts_behind}
 use Rattle.state_check.proofs.counts.counts_above.Given as goal
 
 abbrev pub invariant-loop-j : goal.invariant-loop-j

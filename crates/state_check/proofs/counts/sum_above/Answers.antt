@@ -1,5 +1,4 @@
 -- There is a sum where one waits.
-use borrow.Author.Rules.{rules}
 use Rattle.state_check.proofs.CountsLaws.{sum-none, sum-waits}
 use Rattle.state_check.proofs.counts.sum_above.Goals as goal
 

@@ -1,5 +1,4 @@
 -- An entry that is not a loop's has no top count.
-use borrow.Author.Rules.{rules}
 use Rattle.state_check.proofs.CountsLaws.{top-loop, top-none}
 use Rattle.state_check.proofs.counts.top_above.Goals as goal
 

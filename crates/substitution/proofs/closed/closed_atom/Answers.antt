@@ -1,5 +1,4 @@
 -- A numeral is closed, and a variable where it is marked.
-use borrow.Author.Rules.{rules}
 use mathlib.Core.Path.{sym, ◌∙◌}
 use native.Mathlib.Omega.{arith}
 use Rattle.substitution.specs.Marks.{marked}

@@ -1,15 +1,8 @@
 -- Invariant: the test of what is left of the row comes to what the test of the whole does.
-use borrow.Author.Rules.{rules}
-use borrow.Author.Tests.{not-false, not-true}
 use mathlib.Core.Path.{sym, ◌∙◌}
-use mathlib.Core.List.{List}
 use native.Mathlib.Omega.{arith}
-use Prim.Native.Nat.{◌*◌, ◌+◌, ◌-◌, ◌≤◌}
-use Rattle.rules.specs.FreeVariables.{closed_atoms}
-use Rattle.rules.specs.Syntax.{Atom}
 use Rattle.substitution.specs.Marks.{marked}
-use Rattle.substitution.specs.Ranged.{RangedAtoms}
-use Rattle.substitution.proofs.ClosedLaws.{ClosedRow, row-begin, row_done, row_first}
+use Rattle.substitution.proofs.ClosedLaws.{row-begin, row_done, row_first}
 use Rattle.substitution.proofs.RangedLaws.{row_moved, row_room}
 use Rattle.substitution.proofs.closed.closed_atoms.Goals as goal
 

@@ -1,5 +1,4 @@
 -- By the kind of what is bound.
-use borrow.Author.Rules.{rules}
 use native.Mathlib.Omega.{arith}
 use Rattle.substitution.proofs.RangedLaws.{bound-high, bound-low}
 use Rattle.substitution.proofs.path.bound_atom.Goals as goal

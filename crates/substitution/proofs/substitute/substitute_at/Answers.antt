@@ -1,21 +1,12 @@
 -- Invariant: what is left to do of the term at p, done to the present bytes, gives what was to be done at first, and so with
 -- the count of what is replaced.
-use mathlib.Core.Path.{◌≡◌, refl, sym, ◌∙◌}
+use mathlib.Core.Path.{refl, sym, ◌∙◌}
 use native.Mathlib.Omega.{arith}
-use Prim.Native.Nat.{◌-◌}
-use lib.ListN.{length, length-set}
-use borrow.Author.Rules.{rules}
-use Rattle.buffer.specs.Slice.{put}
-use Rattle.record.specs.Term.{encode_term_record}
+use lib.ListN.{length-set}
 use Rattle.rules.specs.FreeVariables.{atom_of_simple}
-use Rattle.rules.specs.Replaced.{replaced as replaced_of}
-use Rattle.rules.specs.Substitution.{substitute}
-use Rattle.rules.specs.Syntax.{Term}
-use Rattle.substitution.specs.Ranged.{RangedTerm}
-use Rattle.numerals.specs.Values.{substitution_of}
 use Rattle.substitution.proofs.AtomSubstitutionLaws.{atom-room}
 use Rattle.substitution.proofs.RangedLaws.{else-rec, ranged-let_all, ranged-let_one, ranged-room, ranged-tuple, let_one-atom}
-use Rattle.substitution.proofs.SubstituteAtLaws.{Todo, let_all-next, let_one-most, let_one-next, rec-most, rec-next, replaced-room, todo-begin, tuple-done}
+use Rattle.substitution.proofs.SubstituteAtLaws.{let_all-next, let_one-most, let_one-next, rec-most, rec-next, replaced-room, todo-begin, tuple-done}
 use Rattle.substitution.proofs.substitute.substitute_at.Goals as goal
 
 pub loop-buf-init : goal.loop-buf-init

@@ -1,5 +1,4 @@
 -- Three ways out: no variable, a variable that stays, and two stores that make a numeral of it.
-use borrow.Author.Rules.{rules}
 use mathlib.Core.Path.{ap, sym, ◌∙◌}
 use native.Mathlib.Omega.{arith}
 use Prim.Native.Nat.{ℕ}

@@ -1,21 +1,17 @@
 -- Invariant: what is left to do of the row, done to the present bytes, gives what was to be done at first, and so with the
 -- count of what is replaced.
-use mathlib.Core.Path.{◌≡◌, refl, ◌∙◌}
+use mathlib.Core.Path.{◌≡◌}
 use mathlib.Core.List.{List, map}
-use native.Mathlib.Omega.{arith}
 use Prim.Native.Nat.{◌*◌, ◌+◌, ◌-◌, ◌≤◌}
 use lib.ListN.{length}
 use Rattle.buffer.specs.Slice.{put}
 use Rattle.record.specs.Term.{encode_atoms}
 use Rattle.rules.specs.Replaced.{replaced_atoms}
 use Rattle.rules.specs.Substitution.{substitute_atom}
-use Rattle.record.proofs.SizeLaws.{replaced_atoms-most}
 use Rattle.rules.specs.Syntax.{Atom}
 use Rattle.substitution.specs.Ranged.{RangedAtoms}
 use Rattle.numerals.specs.Values.{substitution_of}
-use Rattle.substitution.proofs.AtomSubstitutionLaws.{SubstituteRow, row-begin, row_done, row_first}
-use borrow.Author.Rules.{rules}
-use Rattle.substitution.proofs.RangedLaws.{row_moved, row_room}
+use Rattle.substitution.proofs.AtomSubstitutionLaws.{SubstituteRow}
 use Rattle.substitution.proofs.substitute.substitute_atoms.Given as goal
 
 abbrev pub invariant-loop-i : goal.invariant-loop-i

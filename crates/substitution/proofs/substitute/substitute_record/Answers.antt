@@ -1,5 +1,4 @@
 -- The term behind the header, substituted, and the zeros behind the record: one law of the record layer.
-use borrow.Author.Rules.{rules}
 use native.Mathlib.Omega.{arith}
 use mathlib.Core.Path.{◌≡◌, ◌∙◌, ap, ap₂}
 use Rattle.buffer.specs.Slice.{put}

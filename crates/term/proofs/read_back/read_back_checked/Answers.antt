@@ -1,7 +1,5 @@
 -- Rows 9 and 10, or the program written.
-use borrow.Author.Rules.{rules}
 use native.Mathlib.Omega.{arith}
-use borrow.Author.Tests.{not-false, not-true}
 use Rattle.rules.specs.ReadBack.{read_back}
 use Rattle.term.proofs.AnsweredLaws.{answers, read_back-nine, read_back-ten, read_back-zero, source-found}
 use Rattle.term.proofs.read_back.read_back_checked.Goals as goal

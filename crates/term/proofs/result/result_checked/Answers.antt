@@ -1,7 +1,5 @@
 -- Rows 6 to 8, or the numerals copied.
-use borrow.Author.Rules.{rules}
 use mathlib.Core.Path.{sym, ◌∙◌}
-use borrow.Author.Tests.{not-false, not-true}
 use Rattle.term.proofs.AnsweredLaws.{numerals-of, result-eight, result-seven, result-six, result-zero}
 use Rattle.term.proofs.result.result_checked.Goals as goal
 

@@ -1,5 +1,4 @@
 -- Row 6, row 16, or the store substituted.
-use borrow.Author.Rules.{rules}
 use native.Mathlib.Omega.{arith}
 use Rattle.term.proofs.AnsweredLaws.{substitute-answers, substitute-few, substitute-six, substitute-sixteen, substitute-zero, values-small}
 use Rattle.term.proofs.substitute.substitute_checked.Goals as goal

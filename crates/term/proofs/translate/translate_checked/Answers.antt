@@ -1,5 +1,4 @@
 -- Row 10, or the translation written.
-use borrow.Author.Rules.{rules}
 use native.Mathlib.Omega.{arith}
 use Rattle.term.proofs.AnsweredLaws.{answers, translate-ten, translate-zero}
 use Rattle.term.proofs.translate.translate_checked.Goals as goal
