@@ -47,11 +47,21 @@ fn in_capitals(name: impl std::fmt::Debug) -> String {
     capitals
 }
 
-/// In the table's order, which the header promises: 14 stands behind 1, 12, 15 and 17 behind 5, 11, 13, 16 and 18
-/// behind 6, and 19 is the last.
+/// What the header lists for these refusals, in this order, behind what is accepted.
+fn listed(refusals: &[Refusal]) -> Vec<(String, u32)> {
+    let numbered = |refusal: &Refusal| (in_capitals(*refusal), refusal.number());
+    let accepted = ("ACCEPTED".to_string(), 0);
+    std::iter::once(accepted)
+        .chain(refusals.iter().map(numbered))
+        .collect()
+}
+
+/// In the table's order, which the header promises: 14 stands behind 1, 12, 15 and 17 behind 5, and 11, 13
+/// and 16 behind 6. The forecast's two are looked at in the next test.
 #[test]
 fn the_refusals_have_their_numbers_in_the_order_of_the_table() {
-    let mut wanted = vec![("ACCEPTED".to_string(), 0)];
+    let mut found = enumerators(&header(), "vistrokk_refusal");
+    found.retain(|(_, number)| ![18, 19].contains(number));
     let refusals = [
         Refusal::BadBuffer,
         Refusal::BadBatch,
@@ -66,15 +76,26 @@ fn the_refusals_have_their_numbers_in_the_order_of_the_table() {
         Refusal::BadRule,
         Refusal::BadState,
         Refusal::ValueAboveCeiling,
-        Refusal::BoundAssigned,
         Refusal::FreeVariable,
         Refusal::Unfinished,
         Refusal::NoProgram,
         Refusal::OutputTooShort,
-        Refusal::FigureTooLarge,
     ];
-    wanted.extend(refusals.map(|refusal| (in_capitals(refusal), refusal.number())));
-    assert_eq!(enumerators(&header(), "vistrokk_refusal"), wanted);
+    assert_eq!(found, listed(&refusals));
+}
+
+/// 02, C-19: 18 stands behind 16, with which the store is checked, and 19 is the last.
+#[test]
+fn the_refusals_of_a_forecast_stand_at_their_places() {
+    let found = enumerators(&header(), "vistrokk_refusal");
+    let place = |refusal| {
+        let wanted = (in_capitals(refusal), refusal.number());
+        found.iter().position(|it| *it == wanted)
+    };
+    let behind_the_store = place(Refusal::ValueAboveCeiling).unwrap() + 1;
+    assert_eq!(place(Refusal::BoundAssigned), Some(behind_the_store));
+    assert_eq!(place(Refusal::FigureTooLarge), Some(found.len() - 1));
+    assert_eq!(found.len(), 20);
 }
 
 /// The format's table, whose rows begin with number and name: the same, without what is accepted.
