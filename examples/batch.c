@@ -2,7 +2,7 @@
  * Each has its own budget and its own answer, and none changes another's. It prints a line for each: the outcome, the steps made, and the
  * end values of one that is finished. `./test` builds and runs it:
  *
- *    cc -I include examples/batch.c target/staticlib/libvistrokk.a -o batch
+ *    cc -I include examples/batch.c crates/vistrokk/out/libvistrokk.a -o batch
  *    ./batch [ROOM]
  *
  * ROOM: the bytes of the reducer's buffer, 16,384 if not given. Exit status: 0; 1 with a refusal; 2 if that is no such number.

@@ -1,6 +1,6 @@
 //! The same as batch.c, in Rust, with the same argument, lines and exit status. `./test` builds and runs it:
 //!
-//!     rustc -O -L native=target/staticlib -l static=vistrokk examples/batch.rs
+//!     rustc -O -L native=crates/vistrokk/out -l static=vistrokk examples/batch.rs
 //!     ./batch [ROOM]
 
 use std::process::exit;

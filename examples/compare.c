@@ -4,7 +4,7 @@
  * whatever the outcomes are, and names them, and how many variables became numerals: where the store was substituted, and in the
  * reductions. `./test` builds and runs it:
  *
- *    cc -I include examples/compare.c target/staticlib/libvistrokk.a -o compare
+ *    cc -I include examples/compare.c crates/vistrokk/out/libvistrokk.a -o compare
  *    ./compare [FILE [BUDGET [STEPPER_ROOM [REDUCER_ROOM]]]]
  *
  * FILE: a program's record, of either edition, and its k values, as in inputs/ (docs/FORMAT.md); without one, ADD under a ceiling of 10 on

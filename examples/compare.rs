@@ -1,6 +1,6 @@
 //! The same as compare.c, in Rust, with the same arguments, lines and exit status. `./test` builds and runs it:
 //!
-//!     rustc -O -L native=target/staticlib -l static=vistrokk examples/compare.rs
+//!     rustc -O -L native=crates/vistrokk/out -l static=vistrokk examples/compare.rs
 //!     ./compare [FILE [BUDGET [STEPPER_ROOM [REDUCER_ROOM]]]]
 
 use std::process::exit;

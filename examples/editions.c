@@ -2,7 +2,7 @@
  * are run in both editions, and then it is moved back, to the same bytes. Two refusals follow: what is in edition 2 already is not moved
  * there once more, and under a ceiling of its own it has no way back. `./test` builds and runs it:
  *
- *    cc -I include examples/editions.c target/staticlib/libvistrokk.a -o editions
+ *    cc -I include examples/editions.c crates/vistrokk/out/libvistrokk.a -o editions
  *    ./editions [FILE]
  *
  * FILE: a program's record of edition 1 and its k values, as in inputs/ (docs/FORMAT.md); without one, ADD on 7, 3, 0, 0.

@@ -1,6 +1,6 @@
 //! The same as editions.c, in Rust, with the same argument, lines and exit status. `./test` builds and runs it:
 //!
-//!     rustc -O -L native=target/staticlib -l static=vistrokk examples/editions.rs
+//!     rustc -O -L native=crates/vistrokk/out -l static=vistrokk examples/editions.rs
 //!     ./editions [FILE]
 
 use std::process::exit;

@@ -3,7 +3,7 @@
  * with the steps foretold as their budget, and must do what was said: finish after just so many, or lack the room; one that is over,
  * as a value would be above the ceiling, has made fewer. `./test` builds and runs it:
  *
- *    cc -I include examples/forecast.c target/staticlib/libvistrokk.a -o forecast
+ *    cc -I include examples/forecast.c crates/vistrokk/out/libvistrokk.a -o forecast
  *    ./forecast [FILE [STEPPER_ROOM [REDUCER_ROOM]]]
  *
  * FILE: a program's record, of either edition, and its k values, as in inputs/ (docs/FORMAT.md); without one, ADD on 7, 3, 0, 0. The rooms:

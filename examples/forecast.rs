@@ -1,6 +1,6 @@
 //! The same as forecast.c, in Rust, with the same arguments, lines and exit status. `./test` builds and runs it:
 //!
-//!     rustc -O -L native=target/staticlib -l static=vistrokk examples/forecast.rs
+//!     rustc -O -L native=crates/vistrokk/out -l static=vistrokk examples/forecast.rs
 //!     ./forecast [FILE [STEPPER_ROOM [REDUCER_ROOM]]]
 
 use std::process::exit;

@@ -1,4 +1,4 @@
-/* The calls of the Vistrokk library. Link libvistrokk.a: `rt staticlib vistrokk` makes it, for x86-64 (ELF, System V calls).
+/* The calls of the Vistrokk library. Link libvistrokk.a: `rt lib` in crates/vistrokk makes it, for x86-64 (ELF, System V calls).
  * docs/FORMAT.md says what the records are.
  *
  * Lent memory: a buffer is a pointer and its length in bytes; its first `used` bytes are the record. A store is a pointer to

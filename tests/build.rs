@@ -1,4 +1,4 @@
-//! Links the proved library: `../target/staticlib/libvistrokk.a`, or the archive that VISTROKK_LIBRARY names.
+//! Links the proved library: `../crates/vistrokk/out/libvistrokk.a`, or the archive that VISTROKK_LIBRARY names.
 
 use std::env;
 use std::path::{Path, PathBuf};
@@ -15,7 +15,7 @@ fn main() {
 fn archive() -> PathBuf {
     match env::var_os(VARIABLE) {
         Some(path) => PathBuf::from(path),
-        None => Path::new(env!("CARGO_MANIFEST_DIR")).join("../target/staticlib/libvistrokk.a"),
+        None => Path::new(env!("CARGO_MANIFEST_DIR")).join("../crates/vistrokk/out/libvistrokk.a"),
     }
 }
 
@@ -34,7 +34,7 @@ fn link(archive: &Path) {
 
 fn missing(archive: &Path) -> ! {
     eprintln!("The proved library is not there: {}", archive.display());
-    eprintln!("Run `rt staticlib vistrokk` at the top of the repository: it proves the library and makes the archive.");
+    eprintln!("Run `rt lib` in crates/vistrokk: it proves the library and makes the archive.");
     eprintln!("({VARIABLE} names another archive.)");
     exit(1)
 }

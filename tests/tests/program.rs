@@ -1,4 +1,4 @@
-//! The program itself (`../target/bin/lockstep`, built by rt), run on its standard input and held
+//! The program itself (`../crates/lockstep/out/lockstep`, built by rt), run on its standard input and held
 //! against the lines expected and against the other program.
 
 use std::fs;
@@ -21,11 +21,11 @@ fn root() -> PathBuf {
 
 /// What it prints. It is fed from another thread: it may print before it has read all.
 fn printed(input: &[u8]) -> String {
-    let mut child = Command::new(root().join("target/bin/lockstep"))
+    let mut child = Command::new(root().join("crates/lockstep/out/lockstep"))
         .stdin(Stdio::piped())
         .stdout(Stdio::piped())
         .spawn()
-        .expect("the program: `rt check lockstep` builds it");
+        .expect("the program: `../run` builds it");
     let mut feed = child.stdin.take().unwrap();
     let input = input.to_vec();
     let fed = thread::spawn(move || feed.write_all(&input).expect("all of the input is read"));
