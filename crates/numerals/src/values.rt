@@ -1,5 +1,5 @@
 // A substitution as an array: at index x the value of variable x. Variables run from 1, so index 0 is never read.
-ghost use Rattle.std.specs.Prelude.{◌≡◌, List, map, ℕ, ◌<◌, ◌≤◌, length};
+ghost use Rattle.std.specs.Prelude.{◌≡◌, List, [], map, ℕ, ◌<◌, ◌≤◌, length};
 ghost use Rattle.place.specs.TermView.{TermAt};
 ghost use Rattle.rules.specs.Substitution.{from_store, only as only_of};
 ghost use Rattle.rules.specs.Syntax.{num, tuple};
@@ -30,30 +30,48 @@ pub fn only(x: usize, v: u32) -> [u64; SLOTS]
     values
 }
 
-pub fn from_store(store: &[u32]) -> [u64; SLOTS]
-    requires { length store.now ≤ 16 }
-    ensures { (length result ≡ 17) × (substitution_of result ≡ from_store store.now) }
+// The values of a store into an array in which every variable stays. It is filled where it lies: an array that is handed back is copied,
+// and that takes a call of the C library's.
+pub fn put_store(values: &mut [u64; SLOTS], store: &[u32])
+    requires blank { (length values.old ≡ 17) × (substitution_of values.old ≡ from_store []) }
+    requires few { length store.now ≤ 16 }
+    ensures { (length values.new ≡ 17) × (substitution_of values.new ≡ from_store store.now) }
 {
-    let mut values = [STAYS; SLOTS];
     let mut i = 0;
     while i < store.len() {
         values[i + 1] = wide64(store[i]);
         i += 1;
     }
+}
+
+pub fn from_store(store: &[u32]) -> [u64; SLOTS]
+    requires { length store.now ≤ 16 }
+    ensures { (length result ≡ 17) × (substitution_of result ≡ from_store store.now) }
+{
+    let mut values = [STAYS; SLOTS];
+    put_store(&mut values, store);
     values
 }
 
 // The same of the numerals of the tuple at an index.
-pub fn from_tuple(buf: &[u8], at: usize, k: u32) -> [u64; SLOTS]
-    requires { ((vs : List ℕ) × TermAt buf.now at k (tuple (map num vs))) × (k ≤ 16) }
-    ensures { (length result ≡ 17) × ((vs : List ℕ) → TermAt buf.now at k (tuple (map num vs)) → substitution_of result ≡ from_store vs) }
+pub fn put_tuple(values: &mut [u64; SLOTS], buf: &[u8], at: usize, k: u32)
+    requires blank { (length values.old ≡ 17) × (substitution_of values.old ≡ from_store []) }
+    requires numerals { ((vs : List ℕ) × TermAt buf.now at k (tuple (map num vs))) × (k ≤ 16) }
+    ensures { (length values.new ≡ 17) × ((vs : List ℕ) → TermAt buf.now at k (tuple (map num vs)) → substitution_of values.new ≡ from_store vs) }
 {
-    let mut values = [STAYS; SLOTS];
     let count = k as usize;
     let mut i = 0;
     while i < count {
         values[i + 1] = wide64(numeral(buf, at + 4, i));
         i += 1;
     }
+}
+
+pub fn from_tuple(buf: &[u8], at: usize, k: u32) -> [u64; SLOTS]
+    requires { ((vs : List ℕ) × TermAt buf.now at k (tuple (map num vs))) × (k ≤ 16) }
+    ensures { (length result ≡ 17) × ((vs : List ℕ) → TermAt buf.now at k (tuple (map num vs)) → substitution_of result ≡ from_store vs) }
+{
+    let mut values = [STAYS; SLOTS];
+    put_tuple(&mut values, buf, at, k);
     values
 }

@@ -19,7 +19,7 @@ ghost use Rattle.reducing.specs.State.{Stands};
 use buffer::{get_u16, put_u16};
 use edit::{put_head, put_lead, put_leaf, relength, remove, spread};
 use moves::move_down;
-use numerals::values::{from_tuple, only};
+use numerals::values::{SLOTS, STAYS, only, put_tuple};
 use plan::{Plan, Rule};
 use record::kind::{LET_ALL, LET_ONE, NUMERAL};
 use substitution::substitute::substitute_at;
@@ -57,7 +57,8 @@ fn let_all(buf: &mut [u8], at: usize, k: u32, used: usize, n: usize) -> usize
     requires { ((vs : List ℕ) × TermAt buf.old (at + 4) k (tuple (map num vs))) × ((u : Term) × RangedTerm buf.old (at + n) k u) × (k ≤ 16) × (at + n ≤ used) × (used ≤ length buf.old) }
     ensures { (vs : List ℕ) (u : Term) → TermAt buf.old (at + 4) k (tuple (map num vs)) → RangedTerm buf.old (at + n) k u → (buf.new ≡ filled_at buf.old at n (substitute (from_store vs) u) used) × (result ≡ replaced (from_store vs) u) }
 {
-    let values = from_tuple(buf, at + 4, k);
+    let mut values = [STAYS; SLOTS];
+    put_tuple(&mut values, buf, at + 4, k);
     let replaced = substitute_at(buf, at + n, k, values);
     remove(buf, at, n, used);
     replaced

@@ -15,7 +15,7 @@ ghost use Rattle.numerals.specs.Values.{substitution_of};
 
 use crate::path::bound_atom;
 use buffer::{get_u16, get_u32, put_u16, put_u32, zero};
-use numerals::values::{SLOTS, STAYS, from_store};
+use numerals::values::{SLOTS, STAYS, put_store};
 use record::Header;
 use record::kind::{LET_ALL, LET_ONE, NUMERAL, REFERENCE, TUPLE};
 
@@ -82,7 +82,9 @@ pub fn substitute_record(buf: &mut [u8], used: usize, h: Header, store: &[u32]) 
     requires { ((t : Term) × TermIn all_vars h t buf.old used) × (length buf.old ≤ 16384) × (length store.now ≡ h.k) }
     ensures { (t : Term) → TermIn all_vars h t buf.old used → (buf.new ≡ padded (length buf.old) (encode_term h (substitute (from_store store.now) t))) × (result ≡ replaced (from_store store.now) t) }
 {
-    let replaced = substitute_at(buf, h.contents_at(), h.k, from_store(store));
+    let mut values = [STAYS; SLOTS];
+    put_store(&mut values, store);
+    let replaced = substitute_at(buf, h.contents_at(), h.k, values);
     let behind = buf.len() - used;
     zero(buf, used, behind);
     replaced

@@ -1,17 +1,8 @@
--- After i turns the array stands for the first i values of the store.
-use native.Mathlib.Omega.{arith}
-use lib.ListN.{length-set}
-use Rattle.numerals.proofs.ValuesLaws.{blank, built-all, built-next, built-none, length-blank}
+-- An array in which every variable stays is the substitution of no store.
+use mathlib.Core.List.{[]}
+use Rattle.numerals.proofs.ValuesLaws.{blank, built-none, length-blank}
 use Rattle.numerals.proofs.values.from_store.Goals as goal
 
-pub loop-i-init : goal.loop-i-init
+pub put_store-requires : goal.put_store-requires
 unfolding blank
-loop-i-init c = (omega arith, length-blank, built-none c.args.store.now)
-
-pub loop-i-preserved : goal.loop-i-preserved
-loop-i-preserved c =
-    (omega arith, simp length-set c.loop-i.invariant.1, built-next c.args.store.now c.loop-i.values c.loop-i.i _ c.loop-i.invariant.1 c.loop-i-test.true c.requires c.wide64.ensures.0 c.wide64.ensures.1 c.loop-i.invariant.2)
-
-pub returns : goal.returns
-returns c =
-    (c.loop-i.invariant.1, built-all c.args.store.now c.loop-i.values c.loop-i.i c.loop-i-test.false c.loop-i.invariant.2)
+put_store-requires c = record { blank = (length-blank, built-none []); few = c.requires }

@@ -7,7 +7,7 @@ use Rattle.rules.specs.Substitution.{from_store}
 use Rattle.rules.specs.Syntax.{num, tuple}
 use Rattle.place.specs.TermView.{TermAt}
 use Rattle.numerals.specs.Values.{substitution_of}
-use Rattle.numerals.proofs.values.from_tuple.Given as goal
+use Rattle.numerals.proofs.values.put_tuple.Given as goal
 
 abbrev pub invariant-loop-i : goal.invariant-loop-i
 invariant-loop-i l =

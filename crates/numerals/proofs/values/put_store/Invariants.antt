@@ -4,7 +4,7 @@ use mathlib.Core.Path.{◌≡◌}
 use lib.ListN.{length, take}
 use Rattle.rules.specs.Substitution.{from_store}
 use Rattle.numerals.specs.Values.{substitution_of}
-use Rattle.numerals.proofs.values.from_store.Given as goal
+use Rattle.numerals.proofs.values.put_store.Given as goal
 
 abbrev pub invariant-loop-i : goal.invariant-loop-i
 invariant-loop-i l =
