@@ -24,25 +24,25 @@ pub overflow_add-at-then-kind-ne-BLOCK : goal.overflow_add-at-then-kind-ne-BLOCK
 overflow_add-at-then-kind-ne-BLOCK c =
     let p = c.requires.0 in
     let M = c.loop-at.invariant.1 p.0 p.1.1.0 p.1.0 p.1.1.1 in
-    omega (arith, ((pass M.row c.loop-at-test.true c.get_u16-kind.ensures.0).named (λ e. omega (arith, c.if-kind-ne-BLOCK.true))).0)
+    omega (arith, ((pass M.row c.loop-at-test.true c.get_u16-kind.ensures.0).named (λ e. omega arith)).0)
 
 pub get_u32-variable-requires : goal.get_u32-variable-requires
 get_u32-variable-requires c =
     let p = c.requires.0 in
     let M = c.loop-at.invariant.1 p.0 p.1.1.0 p.1.0 p.1.1.1 in
-    omega (arith, ((pass M.row c.loop-at-test.true c.get_u16-kind.ensures.0).named (λ e. omega (arith, c.if-kind-ne-BLOCK.true))).0)
+    omega (arith, ((pass M.row c.loop-at-test.true c.get_u16-kind.ensures.0).named (λ e. omega arith)).0)
 
 pub overflow_cast-variable : goal.overflow_cast-variable
 overflow_cast-variable c =
     let p = c.requires.0 in
     let M = c.loop-at.invariant.1 p.0 p.1.1.0 p.1.0 p.1.1.1 in
-    omega (arith, ((pass M.row c.loop-at-test.true c.get_u16-kind.ensures.0).named (λ e. omega (arith, c.if-kind-ne-BLOCK.true))).1, c.get_u32-variable.ensures, p.1.0, c.loop-at.invariant.0)
+    omega (arith, ((pass M.row c.loop-at-test.true c.get_u16-kind.ensures.0).named (λ e. omega arith)).1, c.get_u32-variable.ensures, p.1.0, c.loop-at.invariant.0)
 
 pub bounds-marks-variable : goal.bounds-marks-variable
 bounds-marks-variable c =
     let p = c.requires.0 in
     let M = c.loop-at.invariant.1 p.0 p.1.1.0 p.1.0 p.1.1.1 in
-    omega (arith, ((pass M.row c.loop-at-test.true c.get_u16-kind.ensures.0).named (λ e. omega (arith, c.if-kind-ne-BLOCK.true))).1, c.get_u32-variable.ensures, p.1.0, c.loop-at.invariant.0)
+    omega (arith, ((pass M.row c.loop-at-test.true c.get_u16-kind.ensures.0).named (λ e. omega arith)).1, c.get_u32-variable.ensures, p.1.0, c.loop-at.invariant.0)
 
 pub head_size-at-requires : goal.head_size-at-requires
 head_size-at-requires c = tt
