@@ -88,7 +88,7 @@ fn the_refusals_have_their_numbers_in_the_order_of_the_table() {
 #[test]
 fn the_refusals_of_a_forecast_stand_at_their_places() {
     let found = enumerators(&header(), "vistrokk_refusal");
-    let place = |refusal| {
+    let place = |refusal: Refusal| {
         let wanted = (in_capitals(refusal), refusal.number());
         found.iter().position(|it| *it == wanted)
     };
