@@ -2,27 +2,23 @@
 use Prim.Native.Nat.{ℕ}
 use mathlib.Core.Path.{refl, ◌≡◌}
 use mathlib.Core.Logic.{inl, inr, ◌⊎◌}
-use mathlib.Core.Bool.{Bool, false, true, ◌||◌}
+use mathlib.Core.Bool.{true}
 use mathlib.Core.List.{List, [], map, ◌∷◌}
 use borrow.Author.Tests.{eq-eqb}
 use lib.Dec.{eqb}
 use Rattle.record.specs.Rows.{First, Row, first_row}
 use Rattle.record.specs.Table.{any}
-use Rattle.record.proofs.RowLaws.{first-first, none_at-zero, none_first}
+use Rattle.record.proofs.RowLaws.{first-first, none_at-zero, none_first, or-true}
 use Rattle.forecast.specs.Forecast.{forecast_rows}
 use Rattle.forecast.proofs.ForecastLaws.{forecast-number, forecast-refused}
 use Rattle.foretold.specs.ForecastNumbers.{ForecastNumbers}
-
-or-either : (a b : Bool) → b ≡ true → (a || b) ≡ true
-or-either true b e = refl
-or-either false b e = e
 
 -- the number of the first row that applies is one of the rows'
 first-among : (rs : List Row) (n : ℕ) → First rs n → (n ≡ 0) ⊎ (any (eqb n) (map (λ (r : Row). r.number) rs) ≡ true)
 first-among [] n f = inl f
 first-among (r ∷ rs) n (inl v) = inr (rw (eq-eqb n r.number v.1) refl)
 first-among (r ∷ rs) n (inr v) =
-    elim (first-among rs n v.1) [ inl z ↦ inl z | inr e ↦ inr (or-either (eqb n r.number) (any (eqb n) (map (λ (q : Row). q.number) rs)) e) ]
+    elim (first-among rs n v.1) [ inl z ↦ inl z | inr e ↦ inr (or-true (eqb n r.number) (any (eqb n) (map (λ (q : Row). q.number) rs)) e) ]
 
 pub forecast-numbers : ForecastNumbers
 forecast-numbers = record {
