@@ -6,6 +6,7 @@ use mathlib.Core.List.{◌++◌, List, [], append-nil, map, ◌∷◌}
 use lib.Dec.{eqb}
 use lib.ListN.{drop, drop_of_length-le, length, length-drop, length-map, length-replicate, replicate, set, take}
 use lib.Seq.{length-take-le, take_at}
+use borrow.Rule.Slice.PartMut.{put_mid}
 use borrow.Author.Tests.{eqb-false, eqb-true}
 use native.Mathlib.Omega.{arith}
 use Rattle.buffer.specs.Slice.{part, put, zeros}
@@ -26,6 +27,9 @@ use Rattle.rules.specs.Substitution.{from_store, substitute}
 use Rattle.rules.specs.Syntax.{Term, num, tuple}
 use Rattle.rules.proofs.FreeVariablesLaws.{closed-nums}
 use Rattle.rules.proofs.SoundTermLaws.{sound-closed, sound-from_store}
+use Rattle.run.specs.declared.Outcome as code
+use Rattle.run.specs.declared.Outcome.TheVariants.{Finished, NoRoom, Over, Refused, Spent}
+use Rattle.run.specs.Represents.{as_outcome}
 use Rattle.run.specs.RunAnswer.{RunAnswer, outcome_number}
 use Rattle.reducer.specs.declared.answer.Reduced.{Reduced}
 use Rattle.reducer.specs.ReducerRan.{ReducerRan}
@@ -189,28 +193,33 @@ end-zeros k r no_room n = refl
 end-zeros k r spent n = refl
 end-zeros k r refused n = refl
 
--- what is asked of the values, and what they are then; n is the outcome's number and u the used length
-module _ (h : Header) (r : ReducerCall) (n u : ℕ) (is : n ≡ outcome_number r.answer.outcome) (same : u ≡ r.answer.used) (f : Finishes h r) where
-  pub values-asked : n ≡ 1 → (vs : List ℕ) × Values h r.buf u vs
-  values-asked e =
-      let v = f (finished-number r.answer.outcome (sym is ∙ e)) in
-      (v.0, subst (λ (m : ℕ). Values h r.buf m v.0) (sym same) v.1)
+-- the values: those that result gives where the run is finished, and else zeros
+pub values-finished : (h : Header) (r : ReducerCall) → length r.buf ≤ 16384 → r.answer.outcome ≡ is_finished → Finishes h r
+    → (after : List ℕ) → ((vs : List ℕ) → Values h r.buf r.answer.used vs → after ≡ vs) → after ≡ end_values h.k r.answer.outcome r
+values-finished h r low e f after q = let v = f e in q v.0 v.1 ∙ sym (end-finished h r low r.answer.outcome e v.0 v.1)
 
-  pub values-are : length r.buf ≤ 16384 → (after : List ℕ)
-      → (n ≡ 1 → (vs : List ℕ) → Values h r.buf u vs → after ≡ vs) × ((n ≡ 1 → ⊥) → after ≡ zeros h.k)
-      → after ≡ end_values h.k r.answer.outcome r
-  values-are low after q = go (eqb n 1) refl
-    where
-      go : (b : Bool) → eqb n 1 ≡ b → after ≡ end_values h.k r.answer.outcome r
-      go true e =
-          let one = eqb-true n 1 e in
-          let v = values-asked one in
-          q.0 one v.0 v.1
-          ∙ sym
-          (end-finished h r low r.answer.outcome (finished-number r.answer.outcome (sym is ∙ one)) v.0 (subst (λ (m : ℕ). Values h r.buf m v.0) same v.1))
-      go false e =
-          let other = eqb-false n 1 e in
-          q.1 other ∙ sym (end-zeros h.k r r.answer.outcome (λ z. other (is ∙ z)))
+pub values-zeros : (k : ℕ) (r : ReducerCall) (o : code.Outcome) → (o ≡ Finished → ⊥) → end_values k (as_outcome o) r ≡ replicate k 0
+unfolding end_values
+values-zeros k r Finished n = absurd (n refl)
+values-zeros k r Over n = refl
+values-zeros k r NoRoom n = refl
+values-zeros k r Spent n = refl
+values-zeros k r Refused n = refl
+
+-- outcome and count are written first, and then the values
+front-put : (l : List ℕ) (o s : ℕ) → 2 ≤ length l → set (set l 0 o) 1 s ≡ o ∷ s ∷ drop 2 l
+front-put [] o s h = absurd (omega arith)
+front-put (x ∷ []) o s h = absurd (omega arith)
+front-put (x ∷ y ∷ l) o s h = refl
+
+pub answer-put : (k : ℕ) (r : ReducerCall) (l : List ℕ) (o s : ℕ) → 2 ≤ length l → o ≡ outcome_number r.answer.outcome → s ≡ r.answer.steps
+    → (vs : List ℕ) → vs ≡ end_values k r.answer.outcome r
+    → put_mid 2 (length (set (set l 0 o) 1 s) - 2) (set (set l 0 o) 1 s) vs ≡ answer_of k r
+unfolding answer_of
+answer-put k r l o s h eo es vs ev =
+    let m : List ℕ = set (set l 0 o) 1 s in
+    let none : drop (length m - 2) (drop 2 m) ≡ [] = drop_of_length-le (drop 2 m) {i = length m - 2} (omega (arith, length-drop 2 m)) in
+    ap₂ (λ (a b : List ℕ). a ++ (vs ++ b)) (ap (take 2) (front-put l o s h)) none ∙ ap (λ (m : List ℕ). o ∷ s ∷ m) (append-nil vs) ∙ cc (eo, es, ev)
 
 -- all of a list put over with zeros
 pub cleared : (l after : List ℕ) (n : ℕ) → n ≡ length l → after ≡ put l 0 (zeros n) → after ≡ zeros (length l)
@@ -218,23 +227,6 @@ unfolding put
 cleared l after n e f =
     f ∙ ap (λ (m : List ℕ). zeros n ++ m) (drop_of_length-le l {i = 0 + length (zeros n)} (omega (arith, length-zeros n))) ∙ append-nil (zeros n)
     ∙ ap zeros e
-
--- outcome and count are written first,
-pub front-put : (l : List ℕ) (o s : ℕ) → 2 ≤ length l → set (set l 0 o) 1 s ≡ o ∷ s ∷ drop 2 l
-front-put [] o s h = absurd (omega arith)
-front-put (x ∷ []) o s h = absurd (omega arith)
-front-put (x ∷ y ∷ l) o s h = refl
-
--- and then the values
-pub answer-put : (l r : List ℕ) (o s : ℕ) → l ≡ o ∷ s ∷ r → (vs : List ℕ) → take 2 l ++ (vs ++ drop (length l - 2) (drop 2 l)) ≡ o ∷ s ∷ vs
-answer-put l r o s e vs =
-    let none : drop (length l - 2) (drop 2 l) ≡ [] = drop_of_length-le (drop 2 l) {i = length l - 2} (omega (arith, length-drop 2 l)) in
-    ap₂ (λ (a b : List ℕ). a ++ (vs ++ b)) (ap (take 2) e) none ∙ ap (λ (m : List ℕ). o ∷ s ∷ m) (append-nil vs)
-
-pub answer-is : (k : ℕ) (r : ReducerCall) (o s : ℕ) (vs : List ℕ) → o ≡ outcome_number r.answer.outcome → s ≡ r.answer.steps → vs ≡ end_values k r.answer.outcome r
-    → o ∷ s ∷ vs ≡ answer_of k r
-unfolding answer_of
-answer-is k r o s vs eo es ev = cc (eo, es, ev)
 
 -- WHAT A JOB ALONE IS ANSWERED
 

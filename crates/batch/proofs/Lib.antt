@@ -1,4 +1,5 @@
 pub mod JobLaws
 pub mod AnswersLaws
 pub mod RunBatchLaws
+pub mod WrittenLaws
 pub mod BatchMeaningLaws

@@ -12,13 +12,13 @@ use Rattle.buffer.specs.LittleEndian.{Bytes}
 use Rattle.buffer.specs.Slice.{zeros}
 use Rattle.record.specs.Answers.{Checked, check_program, padded, too_short}
 use Rattle.record.specs.declared.Header.{Header}
-use Rattle.record.specs.Header.{contents_at, encode_term, header_in, largest_of, ok_of}
+use Rattle.record.specs.Header.{encode_term, header_in, largest_of, ok_of}
 use Rattle.record.specs.Holding.{ProgramIn, TermIn}
 use Rattle.record.specs.Rows.{NoRow, Row, bad_buffer, first_row, header_of, k_of, limited_program_rows, row, too_long, values_above}
 use Rattle.record.proofs.AnswerLaws.{check-program-number, fits_out, out-fits, ten-iff}
 use Rattle.record.proofs.HeaderLaws.{ok-limit}
 use Rattle.record.proofs.HeldLaws.{buffer-good, good-buffer, good-values, not-long, short-buffer, values-good, values-read}
-use Rattle.record.proofs.HoldingLaws.{padded-term, passes-program, program-as-read, program-first, program-header, program-k, program-whole}
+use Rattle.record.proofs.HoldingLaws.{padded-term, passes-program, program-as-read, program-first, program-header, program-k}
 use Rattle.record.proofs.RowLaws.{first-applies, first-before, first-none, first-skips, none_first, none-split, not-intro, or-false, or-intro, or-true}
 use Rattle.record.proofs.RowMeaningLaws.{eqb-iff, not_iff, or-iff}
 use Rattle.rules.specs.FreeVariables.{all_vars}
@@ -30,17 +30,10 @@ use Rattle.rules.specs.Syntax.{Block}
 use Rattle.rules.specs.Translation.{translate}
 use Rattle.rules.proofs.ScopeLaws.{in_range-within, within-in_range}
 use Rattle.rules.proofs.SoundTermLaws.{sound-translate}
-use Rattle.term.specs.Answer.{refused_with, wrote_bytes}
 use Rattle.term.specs.Calls.{translated}
-use Rattle.term.specs.declared.Written.{Written}
 use Rattle.term.proofs.CallLaws.{translated-is}
-use Rattle.batch.specs.Represents.{as_batch}
 use Rattle.batch.specs.RunBatch.{BatchCall, answers_of, bad_batch, bad_values, batch_by, batch_rows, check_batch_rows, jobs, longer_than_either, run_batch}
 use Rattle.batch.specs.Running.{Given, Passed}
-
--- what the code hands back, by what it is equal to
-pub batch-answers : {r w : Written} {term work answers : List ℕ} {c : BatchCall} → r ≡ w → as_batch w term work answers ≡ c → as_batch r term work answers ≡ c
-batch-answers {r} {w} {term} {work} {answers} e h = ap (λ (v : Written). as_batch v term work answers) e ∙ h
 
 -- THE TESTS OF THE ROWS, in plain facts
 
@@ -149,9 +142,6 @@ module _ (program : List ℕ) (used : ℕ) (term work budgets : List ℕ) where
     no_row : NoRow (check_batch_rows program used term work budgets [])
     no_row = first-none (check_batch_rows program used term work budgets []) refl (sym z)
 
-    pub passed-whole : contents_at (header_in program) ≤ length program
-    passed-whole = program-whole (held no_row bytes).1
-
     pub passed : (h : Header) → h ≡ header_in program → (P : Block) × Passed h P program used term work budgets
     passed h e = let p = held no_row bytes in (p.0, passed-of no_row (program-as-read p.1 h e))
 
@@ -200,12 +190,16 @@ module _ (program : List ℕ) (used : ℕ) (term work budgets values answers : L
 
   -- ONE LAW FOR EACH WAY OUT
 
-  batch-row : (n : ℕ) → first_row rows ≡ n → (n ≡ 0 → ⊥) → as_batch (refused_with n) term work answers ≡ call
+  -- A refusal of the batch.
+  abbrev refused : ℕ → BatchCall
+  refused n = record { number = n; used = 0; term = term; work = work; answers = answers }
+
+  batch-row : (n : ℕ) → first_row rows ≡ n → (n ≡ 0 → ⊥) → refused n ≡ call
   batch-row n e h =
       sym (batch-refused (λ z. h (sym e ∙ z)) ∙ ap (λ (m : ℕ). record { number = m; used = 0; term = term; work = work; answers = answers }) e)
 
   -- a row that the check gives
-  pub batch-checked : (n : ℕ) → n ≡ first_row (check_batch_rows program used term work budgets []) → (n ≡ 0 → ⊥) → as_batch (refused_with n) term work answers ≡ call
+  pub batch-checked : (n : ℕ) → n ≡ first_row (check_batch_rows program used term work budgets []) → (n ≡ 0 → ⊥) → refused n ≡ call
   batch-checked n e h =
       batch-row n (first-before (check_batch_rows program used term work budgets []) _ (λ z. h (e ∙ z)) ∙ sym e) h
 
@@ -237,7 +231,7 @@ module _ (program : List ℕ) (used : ℕ) (term work budgets values answers : L
         }
 
     -- row 6
-    pub batch-six : ((length values ≡ length budgets * h.k → ⊥) ⊎ (length answers ≡ length budgets * (h.k + 2) → ⊥)) → as_batch (refused_with 6) term work answers ≡ call
+    pub batch-six : ((length values ≡ length budgets * h.k → ⊥) ⊎ (length answers ≡ length budgets * (h.k + 2) → ⊥)) → refused 6 ≡ call
     batch-six e =
         batch-row 6 (behind ∙ first-applies 6 (bad_values program used budgets values answers) _ ((values-iff program used budgets values answers).1 (rw is-k e))) (λ z. omega (arith, z))
 
@@ -250,7 +244,7 @@ module _ (program : List ℕ) (used : ℕ) (term work budgets values answers : L
         values-as : values_above program used values ≡ above
         values-as = values-read program used h (program-header p.holds) largest limits values above tells
 
-        pub batch-sixteen : above ≡ true → as_batch (refused_with 16) term work answers ≡ call
+        pub batch-sixteen : above ≡ true → refused 16 ≡ call
         batch-sixteen t =
             batch-row 16 (behind-six ∙ first-applies 16 (values_above program used values) _ (values-as ∙ t)) (λ z. omega (arith, z))
 
@@ -264,7 +258,7 @@ module _ (program : List ℕ) (used : ℕ) (term work budgets values answers : L
             ∙ first-skips 16 (values_above program used values) _ (values-good program used values (subst (λ (x : Header). SmallValues (ok_of x) values) (sym (program-header p.holds)) small))
 
         -- row 10
-        pub batch-ten : (n : ℕ) → n ≡ length bytes → ((length term < n) ⊎ (length work < n)) → as_batch (refused_with 10) term work answers ≡ call
+        pub batch-ten : (n : ℕ) → n ≡ length bytes → ((length term < n) ⊎ (length work < n)) → refused 10 ≡ call
         batch-ten n e l =
             batch-row 10 (last_row ∙ first-applies 10 (longer_than_either term work (translated program used)) [] ((longer-iff term work (translated program used)).1 (rw (is-translated, sym e) l))) (λ z. omega (arith, z))
 
@@ -277,7 +271,7 @@ module _ (program : List ℕ) (used : ℕ) (term work budgets values answers : L
         pub batch-zero : (n : ℕ) → n ≡ length bytes → n ≤ length term → n ≤ length work
             → (term₁ : List ℕ) → term₁ ≡ padded (length term) bytes → (work₁ : List ℕ) → work₁ ≡ zeros (length work)
             → (answers₁ : List ℕ) → answers₁ ≡ answers_of h.k (take n term₁) (length work) (jobs h.k budgets values)
-            → as_batch (wrote_bytes n) term₁ work₁ answers₁ ≡ call
+            → record { number = 0; used = n; term = term₁; work = work₁; answers = answers₁ } ≡ call
         unfolding zeros
         batch-zero n e a b term₁ et work₁ ew answers₁ ea =
             let z = no-row-behind (omega arith) (omega arith) in

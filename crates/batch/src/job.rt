@@ -1,14 +1,13 @@
 // The jobs of a batch, one after the other in the same buffer. Each starts from the term itself, so what one leaves in the buffer
 // changes none of the others.
-ghost use Rattle.std.specs.Prelude.{◌≡◌, List, ◌∷◌, ℕ, ◌*◌, ◌+◌, ◌≤◌, drop, length, take};
-ghost use Rattle.buffer.specs.Slice.{zeros};
+ghost use Rattle.std.specs.Prelude.{◌≡◌, List, ℕ, ◌*◌, ◌+◌, ◌≤◌, length, take};
 ghost use Rattle.record.specs.Header.{ok_of};
 ghost use Rattle.rules.specs.Run.{is_finished};
 ghost use Rattle.rules.specs.Sound.{SmallValues};
 ghost use Rattle.rules.specs.Syntax.{Term};
 ghost use Rattle.run.specs.Represents.{as_outcome};
 ghost use Rattle.batch.specs.Represents.{as_reducer_call};
-ghost use Rattle.batch.specs.RunBatch.{answer_of, answers_of, jobs, run_alone};
+ghost use Rattle.batch.specs.RunBatch.{answer_of, answers_of, end_values, jobs, run_alone};
 ghost use Rattle.batch.specs.Running.{Given, Values};
 
 use moves::copy;
@@ -16,38 +15,18 @@ use numerals::copy_numerals;
 use record::Header;
 use reducer::answer::Reduced;
 use reducer::run_accepted;
-use run::{FINISHED, in_numbers};
+use run::{Outcome, outcome_number};
 use substitution::substitute::substitute_record;
 
-fn clear(values: &mut [u32])
-    ensures { values.new ≡ zeros (length values.old) }
-{
-    let mut i = 0;
-    while i < values.len() {
-        values[i] = 0;
-        i += 1;
-    }
-}
-
 // The numerals of a finished term, and else zeros.
-fn put_values(work: &[u8], used: usize, h: Header, outcome: u32, values: &mut [u32])
-    requires { (outcome ≡ 1 → ((vs : List ℕ) × Values h work.now used vs)) × (length work.now ≤ 16384) × (length values.old ≡ h.k) }
-    ensures { (outcome ≡ 1 → (vs : List ℕ) → Values h work.now used vs → values.new ≡ vs) × ((outcome ≡ 1 → ⊥) → values.new ≡ zeros h.k) }
+fn put_values(work: &[u8], h: Header, reduced: Reduced, values: &mut [u32])
+    requires { (as_outcome reduced.end.outcome ≡ is_finished → ((vs : List ℕ) × Values h work.now reduced.end.used vs)) × (length work.now ≤ 16384) × (length values.old ≡ h.k) }
+    ensures { values.new ≡ end_values h.k (as_outcome reduced.end.outcome) (as_reducer_call reduced work.now) }
 {
-    if outcome == FINISHED {
-        copy_numerals(work, used, h, values);
-    } else {
-        clear(values);
+    match reduced.end.outcome {
+        Outcome::Finished => copy_numerals(work, reduced.end.used as usize, h, values),
+        _ => values.fill(0),
     }
-}
-
-// What an answer begins with.
-fn put_front(answer: &mut [u32], outcome: u32, steps: u32)
-    requires { 2 ≤ length answer.old }
-    ensures { answer.new ≡ outcome ∷ steps ∷ drop 2 answer.old }
-{
-    answer[0] = outcome;
-    answer[1] = steps;
 }
 
 // The answer of a run that left its term in `work`.
@@ -55,15 +34,9 @@ fn put_answer(work: &[u8], h: Header, reduced: Reduced, answer: &mut [u32])
     requires { (as_outcome reduced.end.outcome ≡ is_finished → ((vs : List ℕ) × Values h work.now reduced.end.used vs)) × (length work.now ≤ 16384) × (length answer.old ≡ h.k + 2) }
     ensures { answer.new ≡ answer_of h.k (as_reducer_call reduced work.now) }
 {
-    let numbers = in_numbers(reduced.end);
-    put_front(answer, numbers.outcome, numbers.steps);
-    put_values(
-        work,
-        numbers.used as usize,
-        h,
-        numbers.outcome,
-        &mut answer[2..],
-    );
+    answer[0] = outcome_number(reduced.end.outcome);
+    answer[1] = reduced.end.steps;
+    put_values(work, h, reduced, &mut answer[2..]);
 }
 
 // One job: a copy of the term with the store filled in, its run, and its answer. A numeral is as long as a variable, so the used
@@ -100,8 +73,7 @@ pub fn run_jobs(
     ensures { answers.new ≡ answers_of h.k (take used term.now) (length work.old) (jobs h.k budgets.now values.now) }
 {
     let k = h.k as usize;
-    let mut i = 0;
-    while i < budgets.len() {
+    for (i, budget) in budgets.iter().enumerate() {
         let from = i * k;
         let at = i * (k + 2);
         run_job(
@@ -110,9 +82,8 @@ pub fn run_jobs(
             h,
             work,
             &values[from..from + k],
-            budgets[i],
+            *budget,
             &mut answers[at..at + k + 2],
         );
-        i += 1;
     }
 }

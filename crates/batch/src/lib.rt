@@ -4,42 +4,46 @@
 
 pub mod job;
 
-ghost use Rattle.std.specs.Prelude.{◌≡◌, []};
+ghost use Rattle.std.specs.Prelude.{◌≡◌, IfOk, []};
+ghost use Rattle.record.specs.Header.{header_in};
+ghost use Rattle.record.specs.Refusal.{answer_number};
 ghost use Rattle.record.specs.Rows.{first_row};
 ghost use Rattle.rules.specs.Syntax.{Block};
-ghost use Rattle.batch.specs.Represents.{as_batch};
+ghost use Rattle.batch.specs.Represents.{batch_answer};
 ghost use Rattle.batch.specs.RunBatch.{check_batch_rows, run_batch};
 ghost use Rattle.batch.specs.Running.{Passed};
 
 use crate::job::run_jobs;
-use buffer::zero;
 use checker::{bad_buffer, some_above, too_long};
 use program_checker::check_record;
 use record::Header;
 use record::limit::BATCH;
-use record::refusal::{BAD_BATCH, BAD_BUFFER, BAD_STORE, OUTPUT_TOO_SHORT, VALUE_ABOVE_CEILING};
-use term::{Written, refused, wrote};
+use record::refusal::Refusal;
 use translator::{translation_size, write_translation};
 
-// Rows 1, 14, 2 to 5 and 15: the number of the first that applies, 0 where none does. Row 14 comes before the program is looked at.
-fn check(program: &[u8], used: usize, term: &[u8], work: &[u8], budgets: &[u32]) -> u32
-    ensures { result ≡ first_row (check_batch_rows program.now used term.now work.now budgets.now []) }
+// Rows 1, 14, 2 to 5 and 15: the header where none applies. Row 14 comes before the program is looked at.
+fn check(
+    program: &[u8],
+    used: usize,
+    term: &[u8],
+    work: &[u8],
+    budgets: &[u32],
+) -> Result<Header, Refusal>
+    ensures rows { answer_number result ≡ first_row (check_batch_rows program.now used term.now work.now budgets.now []) }
+    ensures header { IfOk result (λ h. h ≡ header_in program.now) }
 {
     if bad_buffer(program, used) {
-        return BAD_BUFFER;
+        return Err(Refusal::BadBuffer);
     }
     if too_long(term.len()) {
-        return BAD_BUFFER;
+        return Err(Refusal::BadBuffer);
     }
     if too_long(work.len()) {
-        return BAD_BUFFER;
+        return Err(Refusal::BadBuffer);
     }
     match budgets.len() {
-        1..=BATCH => {
-            let checked = check_record(program, used);
-            checked.number
-        }
-        _ => BAD_BATCH,
+        1..=BATCH => check_record(program, used),
+        _ => Err(Refusal::BadBatch),
     }
 }
 
@@ -54,33 +58,32 @@ fn run_checked(
     budgets: &[u32],
     values: &[u32],
     answers: &mut [u32],
-) -> Written
+) -> Result<u32, Refusal>
     requires { (P : Block) × Passed h P program.now used term.old work.old budgets.now }
-    ensures { as_batch result term.new work.new answers.new ≡ run_batch program.now used term.old work.old budgets.now values.now answers.old }
+    ensures { batch_answer result term.new work.new answers.new ≡ run_batch program.now used term.old work.old budgets.now values.now answers.old }
 {
     let count = budgets.len();
     let k = h.k as usize;
     if values.len() != count * k {
-        return refused(BAD_STORE);
+        return Err(Refusal::BadStore);
     }
     if answers.len() != count * (k + 2) {
-        return refused(BAD_STORE);
+        return Err(Refusal::BadStore);
     }
     if some_above(values, h.largest()) {
-        return refused(VALUE_ABOVE_CEILING);
+        return Err(Refusal::ValueAboveCeiling);
     }
     let n = translation_size(program, used, h);
     if term.len() < n {
-        return refused(OUTPUT_TOO_SHORT);
+        return Err(Refusal::OutputTooShort);
     }
     if work.len() < n {
-        return refused(OUTPUT_TOO_SHORT);
+        return Err(Refusal::OutputTooShort);
     }
     write_translation(program, used, h, term);
     run_jobs(term, n, h, work, budgets, values, answers);
-    let room = work.len();
-    zero(work, 0, room);
-    wrote(n)
+    work.fill(0);
+    Ok(n as u32)
 }
 
 // The call: a refusal comes before anything is written.
@@ -92,13 +95,9 @@ pub fn run_batch(
     budgets: &[u32],
     values: &[u32],
     answers: &mut [u32],
-) -> Written
-    ensures { as_batch result term.new work.new answers.new ≡ run_batch program.now used term.old work.old budgets.now values.now answers.old }
+) -> Result<u32, Refusal>
+    ensures { batch_answer result term.new work.new answers.new ≡ run_batch program.now used term.old work.old budgets.now values.now answers.old }
 {
-    let number = check(program, used, term, work, budgets);
-    if number != 0 {
-        return refused(number);
-    }
-    let h = record::read_header(program);
+    let h = check(program, used, term, work, budgets)?;
     run_checked(program, used, h, term, work, budgets, values, answers)
 }

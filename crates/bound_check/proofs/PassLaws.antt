@@ -2,19 +2,12 @@
 -- and those behind it read as one row, `append` of the two.
 use Prim.Native.Nat.{ℕ}
 use mathlib.Core.Path.{◌≡◌, ap, refl, sym, ◌∙◌}
-use mathlib.Core.Bool.{◌&&◌, ◌||◌, Bool, false, true}
+use mathlib.Core.Bool.{◌&&◌, ◌||◌, Bool}
 use lib.Dec.{eqb}
+use Rattle.std.proofs.Math.Bool.{and_assoc, or_assoc}
 use Rattle.rules.specs.Scope.{BlockWithin}
 use Rattle.rules.specs.Syntax.{Block, Bound, append, assign, empty, loop, nest}
 use Rattle.forecast.specs.Steady.{assigned, bound_outside, bounds_outside}
-
-pub or_assoc : (a b c : Bool) → (a || b || c) ≡ (a || (b || c))
-or_assoc true b c = refl
-or_assoc false b c = refl
-
-and_assoc : (a b c : Bool) → (a && b && c) ≡ (a && (b && c))
-and_assoc true b c = refl
-and_assoc false b c = refl
 
 -- TWO ROWS ONE AFTER THE OTHER
 

@@ -1,3 +1,4 @@
 pub mod LittleEndianLaws
 pub mod SliceLaws
 pub mod StoresLaws
+pub mod StdLaws

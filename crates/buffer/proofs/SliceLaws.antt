@@ -6,8 +6,8 @@ use mathlib.Core.List.{List, [], ◌∷◌, ◌++◌, append_assoc}
 use native.Mathlib.Nat.{add_assoc, add-zero}
 use native.Mathlib.Numerals.{add-one}
 use native.Mathlib.Omega.{arith}
-use lib.ListN.{length, take, drop, get_or, set, length-append, length-take, length-drop, length-replicate, replicate, replicate-append-replicate, take-append-drop, get_or-append}
-use lib.Seq.{take_at, drop_at, drop-append-add, drop-drop, length-take-le, take-add, get_or-drop, get_or-take, get_or-append-add, sets, sets-eq, drop-cons, take-suc}
+use lib.ListN.{length, take, drop, get_or, set, length-append, length-take, length-drop, length-replicate, replicate, replicate-append-replicate, take-append-drop}
+use lib.Seq.{take_at, drop_at, drop-append-add, drop-drop, length-take-le, take-add, get_or-drop, sets, sets-eq, drop-cons, take-suc}
 use Rattle.buffer.specs.LittleEndian.{le, val, Bytes}
 use Rattle.buffer.specs.Slice.{put, part, zeros}
 use Rattle.buffer.proofs.LittleEndianLaws.{length-le, val-le}
@@ -136,32 +136,11 @@ pub val-part : (l : List ℕ) (at next w : ℕ) → next ≡ at + 1 → at < len
 unfolding val
 val-part l at next w e h = rw (part-cons l at w h, e) refl
 
--- One store behind what was put, and one in front of it.
+-- One store behind what was put.
 store-next : (l vs : List ℕ) (at k x : ℕ) → at + length vs ≡ k → k < length l → set (put l at vs) k x ≡ put l at (vs ++ (x ∷ []))
 store-next l vs at k x e h =
     let n : length (put l at vs) ≡ length l = length-put l vs at (omega arith) in
     put-sets (put l at vs) k (x ∷ []) (omega arith) ∙ put-put l vs (x ∷ []) at k e (omega arith)
-
-store-front : (l vs : List ℕ) (at x : ℕ) → at + 1 + length vs ≤ length l → set (put l (at + 1) vs) at x ≡ put l at (x ∷ vs)
-store-front l vs at x h =
-    let n : length (put l (at + 1) vs) ≡ length l = length-put l vs (at + 1) h in
-    put-sets (put l (at + 1) vs) at (x ∷ []) (omega arith) ∙ put-put-front l (x ∷ []) vs at (at + 1) refl (omega arith)
-
-get_d-put-after : (l vs : List ℕ) (at k : ℕ) → at + length vs ≤ length l → at + length vs ≤ k → get_or (put l at vs) k 0 ≡ get_or l k 0
-unfolding put
-get_d-put-after l vs at k h b =
-    let p : List ℕ = take at l ++ vs in
-    let n : ℕ = at + length vs in
-    let hp : length p ≡ n = simp (length-append, length-take) (omega arith) in
-    let e : length p + (k - n) ≡ k = omega arith in
-    let f : n + (k - n) ≡ k = omega arith in
-    rw (← append_assoc (take at l) vs (drop n l)) (ap (λ (j : ℕ). get_or (p ++ drop n l) j 0) (sym e) ∙ get_or-append-add p (drop n l) (k - n) 0 ∙ get_or-drop n l (k - n) 0 ∙ ap (λ (j : ℕ). get_or l j 0) f)
-
-get_d-put-before : (l vs : List ℕ) (at k : ℕ) → at ≤ length l → k < at → get_or (put l at vs) k 0 ≡ get_or l k 0
-unfolding put
-get_d-put-before l vs at k h b =
-    let n : length (take at l) ≡ at = length-take-le at l h in
-    get_or-append (take at l) (vs ++ drop (at + length vs) l) 0 k (omega arith) ∙ get_or-take at l k 0 b
 
 -- A turn of each loop: what it has done, b, and its store.
 pub copied_next : (d s b : List ℕ) (to from n : ℕ) → to + n < length d → from + n < length s
@@ -169,37 +148,6 @@ pub copied_next : (d s b : List ℕ) (to from n : ℕ) → to + n < length d →
 copied_next d s b to from n h k e =
     let m : length (part s from n) ≡ n = length_part s from n (omega arith) in
     rw (e, part-snoc s from n k) (store-next d (part s from n) to (to + n) (get_or s (from + n) 0) (omega arith) h)
-
-pub moved-down-next : (l b : List ℕ) (to from n : ℕ) → to ≤ from → from + n < length l
-    → b ≡ put l to (part l from n) → set b (to + n) (get_or b (from + n) 0) ≡ put l to (part l from (n + 1))
-moved-down-next l b to from n h k e =
-    let m : length (part l from n) ≡ n = length_part l from n (omega arith) in
-    let g : get_or b (from + n) 0 ≡ get_or l (from + n) 0 = rw e (get_d-put-after l (part l from n) to (from + n) (omega arith) (omega arith)) in
-    rw g (copied_next l l b to from n (omega arith) k e)
-
-pub moved-up-next : (l b : List ℕ) (to from count left : ℕ) → from ≤ to → to + count ≤ length l → 0 < left → left ≤ count
-    → b ≡ put l (to + left) (part l (from + left) (count - left))
-    → set b (to + (left - 1)) (get_or b (from + (left - 1)) 0) ≡ put l (to + (left - 1)) (part l (from + (left - 1)) (count - (left - 1)))
-moved-up-next l b to from count left h k z m e =
-    let t : ℕ = to + (left - 1) in
-    let f : ℕ = from + (left - 1) in
-    let n : ℕ = count - left in
-    let et : to + left ≡ t + 1 = omega arith in
-    let ef : from + left ≡ f + 1 = omega arith in
-    let en : count - (left - 1) ≡ n + 1 = omega arith in
-    let v : List ℕ = part l (f + 1) n in
-    let lv : length v ≡ n = length_part l (f + 1) n (omega arith) in
-    let eb : b ≡ put l (t + 1) v = rw (et, ef) at e in
-    let g : get_or b f 0 ≡ get_or l f 0 = rw eb (get_d-put-before l v (t + 1) f (omega arith) (omega arith)) in
-    rw (g, eb, en, part-cons l f n (omega arith)) (store-front l v t (get_or l f 0) (omega arith))
-
-zeros-one : zeros 1 ≡ 0 ∷ []
-unfolding zeros
-zeros-one = refl
-
-pub zeroed-next : (l b : List ℕ) (at n : ℕ) → at + n < length l → b ≡ put l at (zeros n) → set b (at + n) 0 ≡ put l at (zeros (n + 1))
-zeroed-next l b at n h e =
-    rw (e, ← zeros-add n 1, zeros-one) (store-next l (zeros n) at (at + n) 0 (omega (arith, length-zeros n)) h)
 
 -- TWO MOVES OF NEIGHBOURING BYTES are one: b is after the first, c after the second.
 

@@ -3,8 +3,17 @@ use Prim.Native.Nat.{◌*◌, ◌+◌, ◌-◌, ◌<◌, ◌≤◌, suc, zero, �
 use mathlib.Core.Path.{ap, refl, ◌∙◌, ◌≡◌}
 use mathlib.Core.List.{List, [], ◌∷◌}
 use lib.ListN.{get_or, length}
+use lib.Dec.{eqb, ltb}
+use mathlib.Core.Bool.{Bool, cond, false, not, true}
+use borrow.Author.Tests.{ltb-false, ne_eqb}
+use Rattle.std.proofs.Common.{None, Some}
+use Rattle.std.specs.Option.{unwrap_or}
+use Rattle.std.specs.List.{position_or_len, range_with_len}
 use native.Mathlib.Omega.{arith}
 use Rattle.counting.specs.Held.{Held}
+use Rattle.state_words.specs.declared.EntryWords.{EntryWords}
+use Rattle.state_words.specs.Entry.{entry_at}
+use Rattle.canonical.specs.Canonical.{held_of}
 use Rattle.counting.specs.StateWords.{held_at, held_from, unless_none}
 
 -- no more than are looked at
@@ -32,6 +41,11 @@ from_some ws i m f = by-what (get_or ws i 0) f
     by-what zero f = absurd (f refl)
     by-what (suc what) f = unfold unless_none in refl
 
+-- the words of an entry are read at once
+pub held-of : (ws : List ℕ) (j : ℕ) {e : EntryWords} → e ≡ entry_at ws j → held_of e ≡ held_at ws (3 + 6 * j)
+unfolding held_at
+held-of ws j e = ap held_of e
+
 -- BEHIND j ENTRIES
 
 -- The entries behind j others.
@@ -54,13 +68,24 @@ behind-some ws j l f =
 pub behind-held : (ws : List ℕ) (j : ℕ) → 0 < length (behind ws j) → get_or ws (3 + 6 * j) 0 ≡ 0 → ⊥
 behind-held ws j l e = omega (arith, behind-none ws j e)
 
--- THE COUNT: n are counted so far
+-- THE COUNT
 
-pub count-end : (ws : List ℕ) (n : ℕ) → length (behind ws 0) ≡ n + length (behind ws n) → get_or ws (3 + 6 * n) 0 ≡ 0 → n ≡ length (behind ws 0)
-count-end ws n e z = omega (arith, behind-none ws n z)
+-- where an entry is held open as 0, of m from the a-th on, or m
+pub held-count : (ws : List ℕ) (a m : ℕ) → position_or_len (λ j. eqb (get_or ws (3 + 6 * j) 0) 0) (range_with_len a m) ≡ length (held_from ws (3 + 6 * a) m)
+unfolding held_from
+held-count ws a zero = refl
+held-count ws a (suc m) = by-what (get_or ws (3 + 6 * a) 0) (held-count ws (a + 1) m) ∙ ap (λ (i : ℕ). length (unless_none (get_or ws (3 + 6 * a) 0) (held_at ws (3 + 6 * a)) (held_from ws i m))) {x = 3 + 6 * (a + 1)} {y = 3 + 6 * a + 6} (omega arith)
+  where
+    by-what : {n : ℕ} (what : ℕ) → n ≡ length (held_from ws (3 + 6 * (a + 1)) m) → cond (not (eqb what 0)) (1 + n) 0 ≡ length (unless_none what (held_at ws (3 + 6 * a)) (held_from ws (3 + 6 * (a + 1)) m))
+    by-what {n} zero e = unfold unless_none in refl
+    by-what {n} (suc what) e = ap (λ (t : Bool). cond (not t) (1 + n) 0) (ne_eqb (suc what) 0 (λ z. omega arith)) ∙ (unfold unless_none in (omega arith))
 
-pub count-all : (ws : List ℕ) (n : ℕ) → length (behind ws 0) ≡ n + length (behind ws n) → 31 ≤ n → n ≡ length (behind ws 0)
-count-all ws n e l = omega (arith, behind-few ws n)
+-- that or 31, as the code finds it
+pub held-found : (ws : List ℕ) → let n = position_or_len (λ (j : ℕ). eqb (get_or ws (3 + 6 * j) 0) 0) (range_with_len 0 31) in unwrap_or (cond (ltb n 31) (Some n) None) 31 ≡ length (held_from ws 3 31)
+held-found ws = rw (held-count ws 0 31) (by-test (length (held_from ws 3 31)) (from-few ws 3 31))
+  where
+    by-test : (n : ℕ) → n ≤ 31 → unwrap_or (cond (ltb n 31) (Some n) None) 31 ≡ n
+    by-test n l = elim (ltb n 31) as (λ (t : Bool). ltb n 31 ≡ t → unwrap_or (cond t (Some n) None) 31 ≡ n) [ true ↦ λ e. refl | false ↦ λ e. omega (arith, ltb-false n 31 e) ] refl
 
 pub count_next : (ws : List ℕ) (n : ℕ) → length (behind ws 0) ≡ n + length (behind ws n) → n < 31 → (get_or ws (3 + 6 * n) 0 ≡ 0 → ⊥) → length (behind ws 0) ≡ n + 1 + length (behind ws (n + 1))
 count_next ws n e l f = let k : length (behind ws n) ≡ suc (length (behind ws (n + 1))) = ap length (behind-some ws n l f) in omega arith

@@ -1,56 +1,23 @@
 -- Laws of the words as they are handed out, entry by entry.
-use Prim.Native.Nat.{◌*◌, ◌+◌, ◌-◌, ◌<◌, suc, zero, ℕ}
+use Prim.Native.Nat.{◌*◌, ◌+◌, ◌-◌, ◌<◌, ◌≤◌, suc, zero, ℕ}
 use mathlib.Core.Path.{ap, ap₂, refl, sym, ◌∙◌, ◌≡◌}
-use mathlib.Core.Bool.{Bool, false, true}
+use mathlib.Core.Bool.{Bool}
 use mathlib.Core.List.{◌++◌, List, [], ◌∷◌, append_assoc, map}
-use borrow.Author.Tests.{eq-eqb, eqb-false, eqb-true, ltb-false, ltb-true, ne_eqb}
-use lib.Dec.{eqb, ltb}
-use lib.ListN.{drop, get_or, length, length-append, replicate, replicate-append-replicate, set}
-use lib.Seq.{get_or-append-add}
+use borrow.Author.Tests.{eq-eqb, ne_eqb}
+use lib.Dec.{eqb}
+use lib.ListN.{drop, length, length-append, replicate, replicate-append-replicate}
+use lib.Seq.{set-append_seam}
 use native.Mathlib.Omega.{arith}
-use Rattle.counting.specs.Held.{Held, canonical, canonical_as, canonical_held, held_block, mark, waiting_sum}
+use borrow.Rule.Slice.PartMut.{put_mid}
+use Rattle.std.proofs.lemmas.List.{append-nil, drop_all, drop_at, take_at}
+use Rattle.counting.specs.Held.{Held, canonical, canonical_held, mark, waiting_sum}
 use Rattle.counting.specs.StateWords.{held_at, held_from, held_words, packed, unless_none, unpacked}
 use Rattle.counting.proofs.StateWordsLaws.{held-at, what-at}
 use Rattle.counting.proofs.WordEdits.{set_append_right, six}
+use Rattle.canonical.proofs.HeldLaws.{from-few}
+use Rattle.canonical.specs.Canonical.{head_by, head_canonical, held_of}
+use Rattle.state_words.specs.declared.EntryWords.{EntryWords}
 use Rattle.state_words.specs.Entry.{entry_put}
-use Rattle.canonical.specs.Canonical.{entry_by, entry_canonical, head_by, head_canonical, row_canonical}
-
--- EACH WAY OUT of the code
-
-pub mark-0 : (w : ℕ) → w ≡ 0 → 0 ≡ mark w
-unfolding mark
-mark-0 w e = sym (ap mark e)
-
-pub mark-1 : (w : ℕ) → (w ≡ 0 → ⊥) → 1 ≡ mark w
-unfolding mark
-mark-1 zero f = absurd (f refl)
-mark-1 (suc w) f = refl
-
-module _ (ws : List ℕ) where
-  pub head-none : get_or ws 1 0 ≡ 0 → set ws 2 0 ≡ head_canonical ws
-  unfolding head_canonical head_by
-  head-none e = sym (ap (λ (b : Bool). head_by b ws) (eq-eqb (get_or ws 1 0) 0 e))
-
-  pub head-waits : (get_or ws 1 0 ≡ 0 → ⊥) → set ws 1 1 ≡ head_canonical ws
-  unfolding head_canonical head_by
-  head-waits f = sym (ap (λ (b : Bool). head_by b ws) (ne_eqb (get_or ws 1 0) 0 f))
-
-  module _ (i : ℕ) where
-    pub entry-block : get_or ws i 0 ≡ 1 → set (set (set ws (i + 2) 0) (i + 3) 0) (i + 4) 0 ≡ entry_canonical ws i
-    unfolding entry_canonical entry_by
-    entry-block e = sym (ap (λ (b : Bool). entry_by b ws i) (eq-eqb (get_or ws i 0) 1 e))
-
-    pub entry-loop : (get_or ws i 0 ≡ 1 → ⊥) → (m : ℕ) → m ≡ mark (get_or ws (i + 4) 0) → set ws (i + 4) m ≡ entry_canonical ws i
-    unfolding entry_canonical entry_by
-    entry-loop f m e = ap (λ (x : ℕ). set ws (i + 4) x) e ∙ sym (ap (λ (b : Bool). entry_by b ws i) (ne_eqb (get_or ws i 0) 1 f))
-
-    pub row-held : (b : Bool) → b ≡ true → entry_canonical ws i ≡ row_canonical b ws i
-    unfolding row_canonical
-    row-held b e = sym (ap (λ (x : Bool). row_canonical x ws i) e)
-
-    pub row-free : (b : Bool) → b ≡ false → entry_put ws i 0 0 0 0 0 0 ≡ row_canonical b ws i
-    unfolding row_canonical
-    row-free b e = sym (ap (λ (x : Bool). row_canonical x ws i) e)
 
 -- ON A LIST TAKEN APART AT THE ENTRY
 
@@ -58,49 +25,9 @@ module _ (ws : List ℕ) where
 abbrev none : List ℕ
 none = 0 ∷ 0 ∷ 0 ∷ 0 ∷ 0 ∷ 0 ∷ []
 
-as-block : (h : Held) → h.what ≡ 1 → six (canonical_held h) ≡ h.what ∷ h.at ∷ 0 ∷ 0 ∷ 0 ∷ h.progress ∷ []
-unfolding canonical_held
-as-block h e = ap (λ (w : ℕ). six (canonical_as w h)) e ∙ (unfold canonical_as held_block in (ap (λ (w : ℕ). w ∷ h.at ∷ 0 ∷ 0 ∷ 0 ∷ h.progress ∷ []) (sym e)))
-
-as-loop : (h : Held) → (h.what ≡ 1 → ⊥) → six (canonical_held h) ≡ h.what ∷ h.at ∷ h.top ∷ h.reached ∷ mark h.running ∷ h.progress ∷ []
-unfolding canonical_held
-as-loop h f = by-what h.what f
-  where
-    by-what : (w : ℕ) → (w ≡ 1 → ⊥) → six (canonical_as w h) ≡ h.what ∷ h.at ∷ h.top ∷ h.reached ∷ mark h.running ∷ h.progress ∷ []
-    by-what zero f = unfold canonical_as in refl
-    by-what (suc zero) f = absurd (f refl)
-    by-what (suc (suc w)) f = unfold canonical_as in refl
-
-module _ (xs ys : List ℕ) (h : Held) where
-  abbrev whole : List ℕ
-  whole = xs ++ (six h ++ ys)
-
-  entry-by : (b : Bool) → eqb h.what 1 ≡ b → entry_by b whole (length xs) ≡ xs ++ (six (canonical_held h) ++ ys)
-  unfolding entry_by
-  entry-by true e =
-      ap (λ (l : List ℕ). set (set l (length xs + 3) 0) (length xs + 4) 0) (set_append_right xs (six h ++ ys) 2 0)
-      ∙ ap (λ (l : List ℕ). set l (length xs + 4) 0) (set_append_right xs (set (six h ++ ys) 2 0) 3 0)
-      ∙ set_append_right xs (set (set (six h ++ ys) 2 0) 3 0) 4 0
-      ∙ ap (λ (l : List ℕ). xs ++ (l ++ ys)) (sym (as-block h (eqb-true h.what 1 e)))
-  entry-by false e =
-      ap (λ (m : ℕ). set whole (length xs + 4) (mark m)) (get_or-append-add xs (six h ++ ys) 4 0)
-      ∙ set_append_right xs (six h ++ ys) 4 (mark h.running)
-      ∙ ap (λ (l : List ℕ). xs ++ (l ++ ys)) (sym (as-loop h (eqb-false h.what 1 e)))
-
-  entry_at : entry_canonical whole (length xs) ≡ xs ++ (six (canonical_held h) ++ ys)
-  unfolding entry_canonical
-  entry_at = ap (λ (w : ℕ). entry_by (eqb w 1) whole (length xs)) (what-at h xs ys (length xs) refl) ∙ entry-by (eqb h.what 1) refl
-
-  zeros-at : entry_put whole (length xs) 0 0 0 0 0 0 ≡ xs ++ (none ++ ys)
-  unfolding entry_put
-  zeros-at =
-      ap (λ (l : List ℕ). set (set (set (set (set l (length xs + 1) 0) (length xs + 2) 0) (length xs + 3) 0) (length xs + 4) 0) (length xs + 5) 0)
-      (ap (λ (n : ℕ). set whole n 0) {x = length xs} {y = length xs + 0} (omega arith) ∙ set_append_right xs (six h ++ ys) 0 0)
-      ∙ ap (λ (l : List ℕ). set (set (set (set l (length xs + 2) 0) (length xs + 3) 0) (length xs + 4) 0) (length xs + 5) 0) (set_append_right xs _ 1 0)
-      ∙ ap (λ (l : List ℕ). set (set (set l (length xs + 3) 0) (length xs + 4) 0) (length xs + 5) 0) (set_append_right xs _ 2 0)
-      ∙ ap (λ (l : List ℕ). set (set l (length xs + 4) 0) (length xs + 5) 0) (set_append_right xs _ 3 0)
-      ∙ ap (λ (l : List ℕ). set l (length xs + 5) 0) (set_append_right xs _ 4 0)
-      ∙ set_append_right xs _ 5 0
+put-at : (xs ys : List ℕ) (h g : Held) (i : ℕ) → length xs ≡ i → entry_put (xs ++ (six h ++ ys)) i g.what g.at g.top g.reached g.running g.progress ≡ xs ++ (six g ++ ys)
+unfolding entry_put
+put-at xs ys h g i e = rw (← e) (simp (set-append_seam, set_append_right))
 
 -- ALL THE ROWS, one after the other
 
@@ -131,6 +58,7 @@ row-cases (a ∷ b ∷ c ∷ d ∷ e ∷ []) m q k = absurd (omega (arith, q))
 -- THE PASS: j rows are done, and the words come to T
 
 pub record Passed (T : List ℕ) (n j : ℕ) (words : List ℕ) : Type 0 where
+  pub few : n ≤ 31
   pub front : List ℕ
   pub back : List ℕ
   pub is : words ≡ front ++ back
@@ -138,44 +66,26 @@ pub record Passed (T : List ℕ) (n j : ℕ) (words : List ℕ) : Type 0 where
   pub rest : length back ≡ 6 * (31 - j)
   pub same : front ++ rows (n - j) (31 - j) back ≡ T
 
-pub passed-end : {T : List ℕ} {n j : ℕ} {words : List ℕ} → Passed T n j words → j ≡ 31 → words ≡ T
-unfolding rows
-passed-end {T} {n} {j} w e = w.is ∙ ap (λ (m : ℕ). w.front ++ rows (n - j) m w.back) {x = 0} {y = 31 - j} (omega arith) ∙ w.same
-
-pub passed_on : {T : List ℕ} {n j : ℕ} {words : List ℕ} → Passed T n j words → j < 31 → (ws : List ℕ) → (b : Bool) → b ≡ ltb j n → ws ≡ row_canonical b words (3 + 6 * j) → Passed T n (j + 1) ws
-unfolding row_canonical
-passed_on {T} {n} {j} {words} w l ws b q e = row-cases w.back (30 - j) (w.rest ∙ (omega arith)) (λ h t f g. by-test b q h t f g e)
-  where
-    more : (h : Held) (t : List ℕ) → w.back ≡ six h ++ t → words ≡ w.front ++ (six h ++ t)
-    more h t f = w.is ∙ ap (λ (z : List ℕ). w.front ++ z) f
-
-    next : (new : List ℕ) (h : Held) (t : List ℕ) → w.back ≡ six h ++ t → length t ≡ 6 * (30 - j) → length new ≡ 6 → ws ≡ w.front ++ (new ++ t) → rows (n - j) (suc (30 - j)) (six h ++ t) ≡ new ++ rows (n - (j + 1)) (30 - j) t
-        → Passed T n (j + 1) ws
-    next new h t f g k e r =
-        record {
-          front = w.front ++ new;
-          back = t;
-          is = e ∙ sym (append_assoc w.front new t);
-          long = length-append w.front new ∙ (omega (arith, w.long));
-          rest = g ∙ (omega arith);
-          same = append_assoc w.front new (rows (n - (j + 1)) (31 - (j + 1)) t)
-              ∙ ap (λ (m : ℕ). w.front ++ (new ++ rows (n - (j + 1)) m t)) {x = 31 - (j + 1)} {y = 30 - j} (omega arith)
-              ∙ ap (λ (z : List ℕ). w.front ++ z) (sym r) ∙ ap (λ (z : List ℕ). w.front ++ rows (n - j) (suc (30 - j)) z) (sym f)
-              ∙ ap (λ (m : ℕ). w.front ++ rows (n - j) m w.back) {x = suc (30 - j)} {y = 31 - j} (omega arith) ∙ w.same;
-        }
-
-    by-test : (b : Bool) → b ≡ ltb j n → (h : Held) (t : List ℕ) → w.back ≡ six h ++ t → length t ≡ 6 * (30 - j) → ws ≡ row_canonical b words (3 + 6 * j) → Passed T n (j + 1) ws
-    by-test true q h t f g e =
-        let s : j < n = ltb-true j n (sym q) in
-        next (six (canonical_held h)) h t f g refl
-        (e ∙ ap₂ entry_canonical (more h t f) (sym w.long) ∙ entry_at w.front t h)
-        (ap (λ (m : ℕ). rows m (suc (30 - j)) (six h ++ t)) {x = n - j} {y = suc (n - (j + 1))} (omega arith) ∙ rows-held (n - (j + 1)) (30 - j) h t)
-    by-test false q h t f g e =
-        let s = ltb-false j n (sym q) in
-        next none h t f g refl
-        (e ∙ ap₂ (λ (x : List ℕ) (y : ℕ). entry_put x y 0 0 0 0 0 0) (more h t f) (sym w.long) ∙ zeros-at w.front t h)
-        (ap (λ (m : ℕ). rows m (suc (30 - j)) (six h ++ t)) {x = n - j} {y = 0} (omega arith) ∙ rows_none (30 - j) h t
-        ∙ ap (λ (m : ℕ). none ++ rows m (30 - j) t) {x = 0} {y = n - (j + 1)} (omega arith))
+pub passed_on : {T : List ℕ} {n j : ℕ} {words : List ℕ} → Passed T n j words → j < n → (e : EntryWords) → held_of e ≡ canonical_held (held_at words (3 + 6 * j))
+    → Passed T n (j + 1) (entry_put words (3 + 6 * j) e.what e.at e.top e.reached e.running e.progress)
+passed_on {T} {n} {j} {words} w l e r = row-cases w.back (30 - j) (w.rest ∙ (omega (arith, w.few))) (λ h t f g.
+    let k : words ≡ w.front ++ (six h ++ t) = w.is ∙ ap (λ (z : List ℕ). w.front ++ z) f in
+    let q : held_of e ≡ canonical_held h = r ∙ ap (λ (z : List ℕ). canonical_held (held_at z (3 + 6 * j))) k ∙ ap canonical_held (held-at h w.front t (3 + 6 * j) w.long) in
+    record {
+      few = w.few;
+      front = w.front ++ six (canonical_held h);
+      back = t;
+      is = ap (λ (z : List ℕ). entry_put z (3 + 6 * j) e.what e.at e.top e.reached e.running e.progress) k ∙ put-at w.front t h (held_of e) (3 + 6 * j) w.long
+          ∙ ap (λ (z : Held). w.front ++ (six z ++ t)) q ∙ sym (append_assoc w.front (six (canonical_held h)) t);
+      long = length-append w.front (six (canonical_held h)) ∙ (omega (arith, w.long));
+      rest = g ∙ (omega arith);
+      same = append_assoc w.front (six (canonical_held h)) (rows (n - (j + 1)) (31 - (j + 1)) t)
+          ∙ ap (λ (m : ℕ). w.front ++ (six (canonical_held h) ++ rows (n - (j + 1)) m t)) {x = 31 - (j + 1)} {y = 30 - j} (omega arith)
+          ∙ ap (λ (z : List ℕ). w.front ++ z) (sym (ap (λ (m : ℕ). rows m (suc (30 - j)) (six h ++ t)) {x = n - j} {y = suc (n - (j + 1))} (omega arith) ∙ rows-held (n - (j + 1)) (30 - j) h t))
+          ∙ ap (λ (z : List ℕ). w.front ++ rows (n - j) (suc (30 - j)) z) (sym f)
+          ∙ ap (λ (m : ℕ). w.front ++ rows (n - j) m w.back) {x = suc (30 - j)} {y = 31 - j} (omega (arith, w.few))
+          ∙ w.same;
+    })
 
 -- THE START: all the rows are the words of the entries held, and zeros
 
@@ -246,6 +156,7 @@ passed_start ws mid e f n c = by-words ws e f c
     by-words : (ws : List ℕ) → length ws ≡ 189 → mid ≡ head_canonical ws → n ≡ length (held_from ws 3 31) → Passed (packed (canonical (unpacked ws))) n 0 mid
     by-words (a ∷ b ∷ x ∷ t) e f c =
         record {
+          few = omega (arith, c, from-few (a ∷ b ∷ x ∷ t) 3 31);
           front = a ∷ mark b ∷ waiting_sum b x ∷ [];
           back = t;
           is = f ∙ heads a b x t;
@@ -258,3 +169,16 @@ passed_start ws mid e f n c = by-words ws e f c
     by-words [] e f c = absurd (omega (arith, e))
     by-words (a ∷ []) e f c = absurd (omega (arith, e))
     by-words (a ∷ b ∷ []) e f c = absurd (omega (arith, e))
+
+-- THE END: zeros behind the entries that are held
+
+pub passed-end : {T : List ℕ} {n j : ℕ} {words : List ℕ} → Passed T n j words → n ≡ j → (zs : List ℕ) → zs ≡ replicate (189 - (3 + 6 * n)) 0 → put_mid (3 + 6 * n) (189 - (3 + 6 * n)) words zs ≡ T
+passed-end {T} {n} {j} {words} w s zs e =
+    let k = 189 - (3 + 6 * n) in
+    let l : length w.front ≡ 3 + 6 * n = omega (arith, w.long) in
+    ap (λ (z : List ℕ). put_mid (3 + 6 * n) k z zs) w.is
+    ∙ ap₂ (λ (y z : List ℕ). y ++ (zs ++ z)) (take_at w.front w.back (3 + 6 * n) l) (ap (drop k) (drop_at w.front w.back (3 + 6 * n) l) ∙ drop_all k w.back (omega (arith, w.rest, w.few)))
+    ∙ ap (λ (z : List ℕ). w.front ++ z)
+    (append-nil zs ∙ e ∙ ap (λ (z : ℕ). replicate z 0) {x = k} {y = 6 * (31 - j)} (omega (arith, w.few)) ∙ sym (rows-zero (31 - j) w.back w.rest)
+    ∙ ap (λ (z : ℕ). rows z (31 - j) w.back) {x = 0} {y = n - j} (omega arith))
+    ∙ w.same

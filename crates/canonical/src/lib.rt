@@ -2,82 +2,60 @@
 #![tactic(auto)]
 
 ghost use Rattle.std.specs.Prelude.{◌≡◌, ◌+◌, ◌≤◌, length};
-ghost use Rattle.counting.specs.Held.{canonical, mark};
+ghost use Rattle.counting.specs.Held.{canonical, canonical_held};
 ghost use Rattle.counting.specs.StateWords.{held_from, packed, unpacked};
-ghost use Rattle.canonical.specs.Canonical.{entry_canonical, head_canonical, row_canonical};
+ghost use Rattle.canonical.specs.Canonical.{head_canonical, held_of};
 
-use state_words::{put_entry, word};
+use state_words::{EntryWords, WORDS, entry, put_entry};
+
+// How many entries words have room for.
+const ENTRIES: usize = 31;
 
 // How many entries are held: those before the first that is held open as 0.
-pub fn open_count(words: &[u32]) -> usize
-    requires { length words.now ≡ 189 }
+pub fn open_count(words: &[u32; WORDS]) -> usize
     ensures { result ≡ length (held_from words.now 3 31) }
 {
-    let mut n = 0;
-    while n < 31 {
-        if word(words, 3 + 6 * n) == 0 {
-            return n;
-        }
-        n += 1;
-    }
-    n
-}
-
-// 1 for a mark that is not 0.
-fn mark_of(w: u32) -> u32
-    ensures { result ≡ mark w }
-{
-    if w == 0 { 0 } else { 1 }
+    (0..ENTRIES)
+        .position(|j| words[3 + 6 * j] == 0)
+        .unwrap_or(ENTRIES)
 }
 
 // The mark of a waiting sum; 0 for a sum that does not wait.
-fn canonical_head(words: &mut [u32])
-    requires { length words.old ≡ 189 }
+#[tactic(auto, unfolding(crate::specs::Canonical::head_canonical, crate::specs::Canonical::head_by))]
+fn canonical_head(words: &mut [u32; WORDS])
     ensures { words.new ≡ head_canonical words.old }
 {
     if words[1] == 0 {
         words[2] = 0;
-        return;
+    } else {
+        words[1] = 1;
     }
-    words[1] = 1;
 }
 
-// An entry that is held: a block has no counts, and a loop that runs is marked so by 1.
-fn canonical_entry(words: &mut [u32], i: usize)
-    requires { (i + 6 ≤ length words.old) × (length words.old ≤ 189) }
-    ensures { words.new ≡ entry_canonical words.old i }
+// An entry: a block has no counts, and a loop that runs is marked so by 1.
+#[tactic(auto, unfolding(counting::specs::Held::canonical_held, counting::specs::Held::canonical_as, counting::specs::Held::held_block, counting::specs::Held::mark))]
+fn canonical_entry(entry: EntryWords) -> EntryWords
+    ensures { held_of result ≡ canonical_held (held_of entry) }
 {
-    if words[i] == 1 {
-        words[i + 2] = 0;
-        words[i + 3] = 0;
-        words[i + 4] = 0;
-        return;
+    if entry.what == 1 {
+        EntryWords::block(entry.at, entry.progress)
+    } else {
+        EntryWords {
+            running: u32::from(entry.running != 0),
+            ..entry
+        }
     }
-    words[i + 4] = mark_of(words[i + 4]);
 }
 
-// The words of an entry: made canonical where it is held, else zeros.
-fn canonical_row(words: &mut [u32], held: bool, i: usize)
-    requires { (i + 6 ≤ length words.old) × (length words.old ≤ 189) }
-    ensures { words.new ≡ row_canonical held words.old i }
-{
-    if held {
-        canonical_entry(words, i);
-        return;
-    }
-    put_entry(words, i, 0, 0, 0, 0, 0, 0);
-}
-
-// All of them.
-pub fn make_canonical(words: &mut [u32])
-    requires { length words.old ≡ 189 }
+// All of them: the entries that are held, and zeros behind them.
+pub fn make_canonical(words: &mut [u32; WORDS])
     ensures { words.new ≡ packed (canonical (unpacked words.old)) }
 {
     let n = open_count(words);
     canonical_head(words);
-    let mut j = 0;
-    while j < 31 {
-        canonical_row(words, j < n, 3 + 6 * j);
-        j += 1;
+    for j in 0..n {
+        let held = canonical_entry(entry(words, j));
+        put_entry(words, 3 + 6 * j, held);
     }
+    words[3 + 6 * n..].fill(0);
 }

@@ -19,7 +19,7 @@ use Rattle.record.proofs.HeaderReadLaws.{header-cut, header-kind, header-length,
 use Rattle.record.proofs.HeldLaws.{good-buffer}
 use Rattle.reader.specs.Head.{head_at}
 use Rattle.reader.specs.declared.Head.TheVariants.{End, Record, Short}
-use Rattle.reader.proofs.HeadLaws.{end-tells, record-tells, short-tells}
+use Rattle.reader.proofs.HeadLaws.{end-tells, not-record, record-tells, short-tells}
 
 module _ (s : Sort) (buf : List ℕ) (used : ℕ) where
   -- a header that is not whole is row 2 already, so the rest of it is shown of one that is
@@ -36,16 +36,19 @@ module _ (s : Sort) (buf : List ℕ) (used : ℕ) where
     within : used ≤ length buf
     within = (good-buffer buf used fine).within
 
-    pub row-end : head_at buf 0 ≡ End → header_row s buf used ≡ 2
+    row-end : head_at buf 0 ≡ End → header_row s buf used ≡ 2
     row-end e =
         let none = end-tells buf 0 e in
         header-cut s buf used (omega (arith, within, contents_at-low (header_in buf)))
 
-    pub row-short : head_at buf 0 ≡ Short → header_row s buf used ≡ 2
+    row-short : head_at buf 0 ≡ Short → header_row s buf used ≡ 2
     row-short e =
         if-whole (λ whole.
         let least = contents_at-low (header_in buf) in
         header-length s buf used whole (λ is-length. short-tells buf 0 e (omega arith) (omega (arith, within))))
+
+    pub row-no_record : ((n k : ℕ) → head_at buf 0 ≡ Record n k → ⊥) → header_row s buf used ≡ 2
+    row-no_record none = not-record (head_at buf 0) none row-end row-short
 
   -- A RECORD, and its header
 

@@ -1,2 +1,4 @@
 pub mod HeaderLaws
 pub mod VerdictLaws
+pub mod AboveLaws
+pub mod AnswerLaws

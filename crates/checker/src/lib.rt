@@ -2,22 +2,24 @@
 // largest one, what is found of a record's contents (rows 4, 5 and 15), and the answer; and row 16's test of values.
 #![tactic(auto)]
 
-ghost use Rattle.std.specs.Prelude.{◌≡◌, false, not, ltb};
+ghost use Rattle.std.specs.Prelude.{◌≡◌, IfOk, false, not, ltb};
 ghost use Rattle.rules.specs.Literals.{small_values};
 ghost use Rattle.rules.specs.Scope.{in_range};
 ghost use Rattle.rules.specs.Store.{up_to};
-ghost use Rattle.record.specs.Answers.{checked_by};
+ghost use Rattle.record.specs.Header.{header_in, largest_of};
 ghost use Rattle.record.specs.HeaderRows.{header_row};
 ghost use Rattle.record.specs.Rows.{bad_buffer};
-ghost use Rattle.checker.specs.Answer.{as_checked};
+ghost use Rattle.record.specs.Refusal.{answer_number};
+ghost use Rattle.checker.specs.Answer.{as_checked, checked_of};
 ghost use Rattle.checker.specs.Verdict.{number_of, rated, valued, worse};
 
 use reader::Head;
-use record::{Sort, limit, refusal};
+use record::refusal::Refusal;
+use record::{Header, Sort, limit};
 
 // What the contents of a record are found to be. Row 4 comes before row 5 and row 5 before row 15, wherever they are found, so
 // malformed is worse than outside, and outside worse than above.
-#[derive(Clone, Copy)]
+#[derive(Clone, Copy, PartialEq, Eq, PartialOrd, Ord)]
 pub enum Verdict {
     Good,
     Above,
@@ -25,7 +27,7 @@ pub enum Verdict {
     Malformed,
 }
 
-// The answer of a check: the number of the refusal, or 0 and k.
+// The answer of a check as it crosses the C boundary: the number of the refusal, or 0 and k.
 #[repr(C)]
 #[derive(Clone, Copy)]
 pub struct Checked {
@@ -33,48 +35,67 @@ pub struct Checked {
     pub k: u32,
 }
 
-pub fn worst(a: Verdict, b: Verdict) -> Verdict
-    ensures { result ≡ worse a b }
-{
-    match a {
-        Verdict::Good => b,
-        Verdict::Malformed => Verdict::Malformed,
-        Verdict::Above => match b {
-            Verdict::Good => Verdict::Above,
-            Verdict::Above => Verdict::Above,
-            Verdict::Outside => Verdict::Outside,
-            Verdict::Malformed => Verdict::Malformed,
-        },
-        Verdict::Outside => match b {
-            Verdict::Good => Verdict::Outside,
-            Verdict::Above => Verdict::Outside,
-            Verdict::Outside => Verdict::Outside,
-            Verdict::Malformed => Verdict::Malformed,
-        },
+impl From<Result<Header, Refusal>> for Checked {
+    ghost from_gives = { λ answer checked. as_checked checked ≡ checked_of answer };
+
+    fn from(answer: Result<Header, Refusal>) -> Checked {
+        match answer {
+            Ok(h) => Checked { number: 0, k: h.k },
+            // A refusal gives no k.
+            Err(refusal) => Checked {
+                number: refusal.number(),
+                k: 0,
+            },
+        }
     }
 }
 
-pub fn number_of(v: Verdict) -> u32
-    ensures { result ≡ number_of v }
+pub fn worst(a: Verdict, b: Verdict) -> Verdict
+    ensures { result ≡ worse a b }
 {
-    match v {
-        Verdict::Good => 0,
-        Verdict::Above => refusal::LITERAL_ABOVE_CEILING,
-        Verdict::Outside => refusal::BAD_VARIABLE,
-        Verdict::Malformed => refusal::MALFORMED,
+    a.max(b)
+}
+
+impl Verdict {
+    // The first of rows 4, 5 and 15 that applies.
+    pub fn row(self) -> Result<(), Refusal>
+        ensures { answer_number result ≡ number_of self }
+    {
+        match self {
+            Verdict::Good => Ok(()),
+            Verdict::Above => Err(Refusal::LiteralAboveCeiling),
+            Verdict::Outside => Err(Refusal::BadVariable),
+            Verdict::Malformed => Err(Refusal::Malformed),
+        }
+    }
+}
+
+// What a header lets through: variable numbers from 1 to k, and literals and numerals up to the largest value.
+#[derive(Clone, Copy)]
+pub struct Limits {
+    pub k: u32,
+    pub largest: u32,
+}
+
+impl From<Header> for Limits {
+    ghost from_gives = { λ h limits. (limits.k ≡ h.k) × (limits.largest ≡ largest_of h) };
+
+    fn from(h: Header) -> Limits {
+        Limits {
+            k: h.k,
+            largest: h.largest(),
+        }
     }
 }
 
 pub fn check_variable(x: u32, k: u32) -> Verdict
     ensures { result ≡ rated (in_range k x) }
 {
-    if x < 1 {
-        return Verdict::Outside;
+    if 1 <= x && x <= k {
+        Verdict::Good
+    } else {
+        Verdict::Outside
     }
-    if k < x {
-        return Verdict::Outside;
-    }
-    Verdict::Good
 }
 
 // A literal or a numeral.
@@ -91,28 +112,7 @@ pub fn check_value(v: u32, largest: u32) -> Verdict
 pub fn some_above(values: &[u32], largest: u32) -> bool
     ensures { result ≡ not (small_values (up_to largest) values.now) }
 {
-    let mut i = 0;
-    while i < values.len() {
-        if largest < values[i] {
-            return true;
-        }
-        i += 1;
-    }
-    false
-}
-
-// A refusal gives no k.
-pub fn answer(number: u32, k: u32) -> Checked
-    ensures { as_checked result ≡ checked_by number k }
-{
-    if number == 0 {
-        Checked { number: 0, k: k }
-    } else {
-        Checked {
-            number: number,
-            k: 0,
-        }
-    }
+    values.iter().any(|&value| largest < value)
 }
 
 // The half of row 1 that is asked of every buffer, and alone of one that only takes output: it is longer than a buffer may be.
@@ -132,33 +132,30 @@ pub fn bad_buffer(buf: &[u8], used: usize) -> bool
     buf.len() < used
 }
 
-// The first of rows 2 and 3 that applies to a record of this sort, in a buffer that row 1 lets through; 0 where neither does. A
-// record that has no whole header has no k.
-pub fn check_header(buf: &[u8], used: usize, sort: Sort) -> u32
+// Rows 2 and 3 of a record of this sort, in a buffer that row 1 lets through. A record that has no whole header has no k.
+pub fn check_header(buf: &[u8], used: usize, sort: Sort) -> Result<Header, Refusal>
     requires { bad_buffer buf.now used ≡ false }
-    ensures { result ≡ header_row sort buf.now used }
+    ensures row { answer_number result ≡ header_row sort buf.now used }
+    ensures header { IfOk result (λ h. h ≡ header_in buf.now) }
 {
-    match reader::head_at(buf, 0) {
-        Head::Record(length, found) => {
-            if used < record::start_of(buf) {
-                return refusal::BAD_HEADER;
-            }
-            let h = record::read_header(buf);
-            if found != h.kind_of(sort) {
-                return refusal::BAD_HEADER;
-            }
-            if length != used {
-                return refusal::BAD_HEADER;
-            }
-            if h.k < 1 {
-                return refusal::BAD_K;
-            }
-            if limit::VARIABLES < h.k {
-                return refusal::BAD_K;
-            }
-            0
-        }
-        Head::End => refusal::BAD_HEADER,
-        Head::Short => refusal::BAD_HEADER,
+    let Head::Record(length, found) = reader::head_at(buf, 0) else {
+        return Err(Refusal::BadHeader);
+    };
+    if used < record::start_of(buf) {
+        return Err(Refusal::BadHeader);
     }
+    let h = record::read_header(buf);
+    if found != h.kind_of(sort).number() {
+        return Err(Refusal::BadHeader);
+    }
+    if length != used {
+        return Err(Refusal::BadHeader);
+    }
+    if h.k < 1 {
+        return Err(Refusal::BadK);
+    }
+    if limit::VARIABLES < h.k {
+        return Err(Refusal::BadK);
+    }
+    Ok(h)
 }

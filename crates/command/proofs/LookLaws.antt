@@ -1,31 +1,36 @@
 -- The plan by what code reads of the first command.
 use Prim.Native.Nat.{◌*◌, ◌+◌, ◌<◌, suc, zero, ℕ, ◌≤◌}
-use mathlib.Core.Path.{ap, ap₂, refl, subst, sym, ◌∙◌, ◌≡◌}
+use mathlib.Core.Path.{ap, refl, subst, sym, ◌∙◌, ◌≡◌}
 use mathlib.Core.List.{List}
 use lib.ListN.{length}
 use native.Mathlib.Omega.{arith}
+use Rattle.std.proofs.Common.{rules}
 use Rattle.buffer.specs.LittleEndian.{val}
 use Rattle.place.specs.Path.{blocks, path, spot}
 use Rattle.place.specs.ProgramView.{BlockAt}
 use Rattle.record.specs.Holding.{ProgramIn}
+use Rattle.record.specs.Kind.{kind_named}
+use Rattle.record.specs.declared.kind.Kind.{Kind}
+use Rattle.record.specs.declared.kind.Kind.TheVariants.{Literal, MinusOne, PlusOne}
+use Rattle.record.proofs.KindLaws.{dec-leaf, inc-leaf, lit-leaf, upto-leaf, upto_var-leaf, var-leaf}
 use Rattle.record.specs.Program.{block_size, bound_kind, bound_number, expr_kind, expr_number}
 use Rattle.buffer.specs.Slice.{part}
-use Rattle.rules.specs.Scope.{BlockWithin, BoundWithin, ExprWithin}
+use Rattle.rules.specs.Scope.{BlockWithin, BoundWithin, ExprWithin, Within}
 use Rattle.rules.specs.Step.{bound_value}
 use mathlib.Core.Bool.{Bool}
 use Rattle.rules.specs.Store.{lookup, minus_one}
 use Rattle.record.specs.declared.Header.{Header}
 use Rattle.record.specs.Header.{contents_at}
-use Rattle.rules.specs.Syntax.{Block, Bound, Expr, assign, empty, loop}
+use Rattle.rules.specs.Syntax.{Block, Bound, Expr, assign, dec, empty, inc, lit, loop, upto, upto_var, var}
 use Rattle.place.proofs.NestingLaws.{plug-keeps}
 use Rattle.place.proofs.PathLaws.{plug-spot, spot-at, spot_is, spot-some}
-use Rattle.place.proofs.ProgramBytesLaws.{block_size-some, block_size-zero, expr_kind-range, kind-dec, kind-inc, kind-lit, kind-var}
+use Rattle.place.proofs.ProgramBytesLaws.{block_size-some, block_size-zero}
 use Rattle.place.proofs.ProgramViewLaws.{as-assign, as-loop, as-nest, assign-view, block-index, block_room, block_same, command-kind, loop-view}
 use Rattle.place.proofs.WholeLaws.{program-at, program-used}
 use Rattle.plan.specs.Plan.{plan, plan_raise, plan_turn}
 use Rattle.plan.specs.declared.Plan.{Plan}
 use Rattle.plan.specs.declared.Rule.TheVariants.{Bind, Evaluate, Finished, Leave}
-use Rattle.command.specs.Plan.{plan_assign, plan_of, plan_spot}
+use Rattle.command.specs.Plan.{leaf_value, plan_assign, plan_of, plan_spot}
 
 -- WHAT CODE READS of a known assignment and of a known loop
 
@@ -54,45 +59,71 @@ loop-read {l} {p} {x} {b} {c} {r} h =
     let v = loop-view x b c r h in
     record { room = omega (arith, v.room, v.size); stored = v.stored; variable = v.variable-read; kind = v.kind-read; number = v.number_read }
 
--- AN ASSIGNMENT, by its variable m and its expression's kind and number n, as they are read; w is the value of variable n
-module _ {l : List ℕ} {at x : ℕ} {e : Expr} {r : Block} (h : BlockAt l at (assign x e r)) (ok : ℕ → Bool) (levels : ℕ) (s : List ℕ) {m kind n : ℕ} (em : m ≡ val (part l (at + 4) 4)) (ek : kind ≡ val (part l (at + 10) 2)) (en : n ≡ val (part l (at + 12) 4)) where
+-- the expression or the bound, read as a leaf at its own place
+module _ (l : List ℕ) (p : ℕ) where
+  pub leaf-kind : {k : Kind} {n : ℕ} → k ≡ kind_named (val (part l (p + 8 + 2) 2)) → val (part l (p + 10) 2) ≡ n → k ≡ kind_named n
+  leaf-kind r v = r ∙ ap (λ (i : ℕ). kind_named (val (part l i 2))) (omega arith) ∙ ap kind_named v
+
+  pub leaf-number : {m n : ℕ} → m ≡ val (part l (p + 8 + 4) 4) → val (part l (p + 12) 4) ≡ n → m ≡ n
+  leaf-number r v = r ∙ ap (λ (i : ℕ). val (part l i 4)) (omega arith) ∙ v
+
+-- A LEAF that code read, its kind k and its number n: of an expression, and of a bound
+module _ {k : Kind} {n : ℕ} where
+  pub expr-leaf : {m : ℕ} (e : Expr) → k ≡ kind_named (expr_kind e) → n ≡ expr_number e → ExprWithin m e → (k ≡ Literal → ⊥) → Within m n
+  expr-leaf (lit v) ek en w f = absurd (f (ek ∙ (lit-leaf v).0))
+  expr-leaf (var y) ek en w f = rw (en ∙ (var-leaf y).1) w
+  expr-leaf (inc y) ek en w f = rw (en ∙ (inc-leaf y).1) w
+  expr-leaf (dec y) ek en w f = rw (en ∙ (dec-leaf y).1) w
+
+  pub bound-leaf : {m : ℕ} (b : Bound) → k ≡ kind_named (bound_kind b) → n ≡ bound_number b → BoundWithin m b → (k ≡ Literal → ⊥) → Within m n
+  bound-leaf (upto v) ek en w f = absurd (f (ek ∙ (upto-leaf v).0))
+  bound-leaf (upto_var y) ek en w f = rw (en ∙ (upto_var-leaf y).1) w
+
+  pub bound_leaf-value : (s : List ℕ) (b : Bound) → k ≡ kind_named (bound_kind b) → n ≡ bound_number b → leaf_value k n s ≡ bound_value s b
+  unfolding leaf_value bound_value
+  bound_leaf-value s (upto v) ek en = rw (ek ∙ (upto-leaf v).0) (en ∙ (upto-leaf v).1)
+  bound_leaf-value s (upto_var y) ek en = rw (ek ∙ (upto_var-leaf y).0) (ap (lookup s) (en ∙ (upto_var-leaf y).1))
+
+-- AN ASSIGNMENT of the variable m, by the kind of its expression, which names the value w
+module _ (ok : ℕ → Bool) (levels at m : ℕ) where
+  assign_by : Kind → ℕ → Plan
+  assign_by PlusOne w = plan_raise levels at m (suc w) 0 (ok (suc w))
+  assign_by MinusOne w = plan levels at Evaluate m (minus_one w) 0 0
+  assign_by _ w = plan levels at Bind m w 0 16
+
+  assign-by : (s : List ℕ) (e : Expr) → assign_by (kind_named (expr_kind e)) (leaf_value (kind_named (expr_kind e)) (expr_number e) s) ≡ plan_assign ok levels at m e s
+  unfolding leaf_value plan_assign assign_by
+  assign-by s (lit v) = rw ((lit-leaf v).0, (lit-leaf v).1) refl
+  assign-by s (var y) = rw ((var-leaf y).0, (var-leaf y).1) refl
+  assign-by s (inc y) = rw ((inc-leaf y).0, (inc-leaf y).1) refl
+  assign-by s (dec y) = rw ((dec-leaf y).0, (dec-leaf y).1) refl
+
+  bind-by : (k : Kind) (w : ℕ) → (k ≡ PlusOne → ⊥) → (k ≡ MinusOne → ⊥) → plan levels at Bind m w 0 16 ≡ assign_by k w
+  unfolding assign_by
+  bind-by k w a b = search rules
+
+module _ {l : List ℕ} {at x : ℕ} {e : Expr} {r : Block} (h : BlockAt l at (assign x e r)) (ok : ℕ → Bool) (levels : ℕ) (s : List ℕ) {m n w : ℕ} {k : Kind} (em : m ≡ val (part l (at + 4) 4)) (ek : k ≡ kind_named (val (part l (at + 8 + 2) 2))) (en : n ≡ val (part l (at + 8 + 4) 4)) (ew : w ≡ leaf_value k n s) where
   abbrev Assigned : Plan → Type 0
   Assigned p = p ≡ plan_assign ok levels at x e s
 
-  -- the expression's kind and number, and the variable
-  kind-is : kind ≡ expr_kind e
-  kind-is = ek ∙ (assign-read h).kind
+  assign-is : Assigned (assign_by ok levels at m k w)
+  assign-is =
+      let v = assign-read h in
+      let variable : m ≡ x = em ∙ v.variable in
+      let kind : k ≡ kind_named (expr_kind e) = leaf-kind l at ek v.kind in
+      let number : n ≡ expr_number e = leaf-number l at en v.number in
+      rw (ew, variable, kind, number) (assign-by ok levels at x s e)
 
-  number_is : n ≡ expr_number e
-  number_is = en ∙ (assign-read h).number
+  pub assign-inc : k ≡ PlusOne → Assigned (plan_raise levels at m (suc w) 0 (ok (suc w)))
+  unfolding assign_by
+  assign-inc is = ap (λ (j : Kind). assign_by ok levels at m j w) (sym is) ∙ assign-is
 
-  variable-is : m ≡ x
-  variable-is = em ∙ (assign-read h).variable
+  pub assign-dec : k ≡ MinusOne → (d : ℕ) → d ≡ minus_one w → Assigned (plan levels at Evaluate m d 0 0)
+  unfolding assign_by
+  assign-dec is d ed = ap (λ (y : ℕ). plan levels at Evaluate m y 0 0) ed ∙ ap (λ (j : Kind). assign_by ok levels at m j w) (sym is) ∙ assign-is
 
-  pub assign-lit : kind ≡ 16 → Assigned (plan levels at Bind m n 0 16)
-  unfolding plan_assign
-  assign-lit c =
-      ap₂ (λ (y d : ℕ). plan levels at Bind y d 0 16) variable-is number_is ∙ sym (ap (λ (a : Expr). plan_assign ok levels at x a s) (kind-lit e (sym kind-is ∙ c)))
-
-  module _ {w : ℕ} (ew : w ≡ lookup s n) where
-    value-is : w ≡ lookup s (expr_number e)
-    value-is = ew ∙ ap (lookup s) number_is
-
-    pub assign-var : kind ≡ 17 → Assigned (plan levels at Bind m w 0 16)
-    unfolding plan_assign
-    assign-var c =
-        ap₂ (λ (y d : ℕ). plan levels at Bind y d 0 16) variable-is value-is ∙ sym (ap (λ (a : Expr). plan_assign ok levels at x a s) (kind-var e (sym kind-is ∙ c)))
-
-    pub assign-dec : kind ≡ 19 → (d : ℕ) → d ≡ minus_one w → Assigned (plan levels at Evaluate m d 0 0)
-    unfolding plan_assign
-    assign-dec c d ed =
-        ap₂ (λ (y a : ℕ). plan levels at Evaluate y a 0 0) variable-is (ed ∙ ap minus_one value-is) ∙ sym (ap (λ (a : Expr). plan_assign ok levels at x a s) (kind-dec e (sym kind-is ∙ c)))
-
-    pub assign-inc : (kind ≡ 16 → ⊥) → (kind ≡ 17 → ⊥) → (kind ≡ 19 → ⊥) → Assigned (plan_raise levels at m (suc w) 0 (ok (suc w)))
-    unfolding plan_assign
-    assign-inc a b c =
-        let k : expr_kind e ≡ 18 = omega (arith, kind-is, expr_kind-range e) in
-        ap₂ (λ (y d : ℕ). plan_raise levels at y (suc d) 0 (ok (suc d))) variable-is value-is ∙ sym (ap (λ (a : Expr). plan_assign ok levels at x a s) (kind-inc e k))
+  pub assign-bind : (k ≡ PlusOne → ⊥) → (k ≡ MinusOne → ⊥) → Assigned (plan levels at Bind m w 0 16)
+  assign-bind a b = bind-by ok levels at m k w a b ∙ assign-is
 
 -- THE FIRST COMMAND at the path's end, of a program in a buffer, and the whole program's plan
 module _ {h : Header} {P : Block} {l : List ℕ} {used contents : ℕ} (p : ProgramIn h P l used) (st : contents_at h ≡ contents) where

@@ -4,10 +4,17 @@ use Rattle.rules.specs.Syntax.{Expr, lit, var, inc, dec, Block, empty, assign, l
 use Rattle.rules.specs.Store.{minus_one, lookup}
 use Rattle.rules.specs.Step.{bound_value}
 use Rattle.record.specs.Program.{block_size}
+use Rattle.record.specs.declared.kind.Kind.{Kind}
+use Rattle.record.specs.declared.kind.Kind.TheVariants.{Literal}
 use Rattle.place.specs.Path.{path, spot}
 use Rattle.plan.specs.Plan.{plan, plan_raise, plan_turn}
 use Rattle.plan.specs.declared.Plan.{Plan}
 use Rattle.plan.specs.declared.Rule.TheVariants.{Bind, Evaluate, Finished, Leave}
+
+-- The value that an expression's or a bound's record names: a literal's number, or the value of the variable with this number.
+unfoldable pub leaf_value : Kind → ℕ → List ℕ → ℕ
+leaf_value Literal n s = n
+leaf_value _ n s = lookup s n
 
 -- Of an assignment: its 16 bytes go where its value is stored, and a literal is as long as the expression that becomes it.
 unfoldable pub plan_assign : (ℕ → Bool) → ℕ → ℕ → ℕ → Expr → List ℕ → Plan

@@ -24,14 +24,13 @@ use Rattle.record.proofs.HeaderLaws.{kind_field-headed, length-headed}
 use Rattle.record.proofs.HeldLaws.{held-header, held-is, held_whole, not-long}
 use Rattle.record.proofs.HoldingLaws.{block-headed, program-held, term-headed}
 use Rattle.record.proofs.RowLaws.{first-applies, first-skips, none_first, or-false, or_right, or-true}
-use Rattle.term.specs.Answer.{as_wrote, refused_with}
 use Rattle.conversion.specs.Convert.{convert_call, convert_rows, converted, last_rows}
 use Rattle.conversion.specs.Converting.{Convertible, HeadedIn, check_sort, is_already}
 use Rattle.conversion.proofs.ConvertLaws.{convert-refused, converted-in}
 
 -- A refusal, with the output as it came.
 abbrev pub refusal : ℕ → List ℕ → Wrote
-refusal n out = as_wrote (refused_with n) out
+refusal n out = record { number = n; used = 0; written = out }
 
 -- WHAT THE CHECK OF A SORT SAYS
 

@@ -2,21 +2,18 @@
 // program and a term differ in their check alone, the two directions in the header and in row 17.
 #![tactic(auto)]
 
-ghost use Rattle.std.specs.Prelude.{◌≡◌, List, ◌+◌, ◌≤◌, ℕ, length};
+ghost use Rattle.std.specs.Prelude.{◌≡◌, IfOk, List, ◌+◌, ◌≤◌, ℕ, length};
 ghost use Rattle.record.specs.Answers.{padded};
-ghost use Rattle.record.specs.Header.{contents_at, headed};
-ghost use Rattle.checker.specs.Answer.{as_checked};
-ghost use Rattle.term.specs.Answer.{as_wrote};
+ghost use Rattle.record.specs.Header.{contents_at, headed, header_in};
+ghost use Rattle.checker.specs.Answer.{checked_of};
+ghost use Rattle.term.specs.Answer.{wrote_of};
 ghost use Rattle.conversion.specs.Convert.{convert_call};
 ghost use Rattle.conversion.specs.Converting.{Convertible, HeadedIn, check_sort, is_already};
-ghost use Rattle.record.specs.declared.Conversion.TheVariants.{ToFirst, ToSecond};
-ghost use Rattle.record.specs.Header.{program, term};
 
-use checker::{Checked, too_long};
+use checker::too_long;
 use edit::put_header;
-use record::refusal::{BAD_BUFFER, BAD_HEADER, OUTPUT_TOO_SHORT, SMALL_CEILING};
+use record::refusal::Refusal;
 use record::{Conversion, Header, Sort};
-use term::{Written, refused, wrote};
 
 // Whether no kind was used, or it is that of the edition asked for: the check lets both editions through, so this comes before it.
 fn is_already(src: &[u8], used: usize, sort: Sort, to: Conversion) -> bool
@@ -26,11 +23,12 @@ fn is_already(src: &[u8], used: usize, sort: Sort, to: Conversion) -> bool
     if used < 4 {
         return true;
     }
-    buffer::get_u16(src, 2) == record::converted_kind(sort, to)
+    buffer::get_u16(src, 2) == record::converted_kind(sort, to).number()
 }
 
-fn check(src: &[u8], used: usize, sort: Sort) -> Checked
-    ensures { as_checked result ≡ check_sort sort src.now used }
+fn check(src: &[u8], used: usize, sort: Sort) -> Result<Header, Refusal>
+    ensures checks { checked_of result ≡ check_sort sort src.now used }
+    ensures header { IfOk result (λ h. h ≡ header_in src.now) }
 {
     match sort {
         Sort::Program => program_checker::check_program(src, used),
@@ -58,63 +56,41 @@ fn convert_checked(
     to: Conversion,
     h: Header,
     out: &mut [u8],
-) -> Written
+) -> Result<u32, Refusal>
     requires { Convertible sort to h src.now used × (length out.old ≤ 16384) }
-    ensures { as_wrote result out.new ≡ convert_call sort to src.now used out.old }
+    ensures { wrote_of result out.new ≡ convert_call sort to src.now used out.old }
 {
     let g = h.converted(to);
     if h.largest() < g.largest() {
-        return refused(SMALL_CEILING);
+        return Err(Refusal::SmallCeiling);
     }
     let n = used - h.contents_at() + g.contents_at();
     if out.len() < n {
-        return refused(OUTPUT_TOO_SHORT);
+        return Err(Refusal::OutputTooShort);
     }
     write_record(src, used, sort, h, g, n, out);
-    wrote(n)
+    Ok(n as u32)
 }
 
-// Row 1 looks at both buffers before row 2 looks at the source.
-fn convert(src: &[u8], used: usize, sort: Sort, to: Conversion, out: &mut [u8]) -> Written
-    ensures { as_wrote result out.new ≡ convert_call sort to src.now used out.old }
+// The call, of a record of either sort and in either direction. Row 1 looks at both buffers before row 2 looks at the source.
+pub fn convert(
+    src: &[u8],
+    used: usize,
+    sort: Sort,
+    to: Conversion,
+    out: &mut [u8],
+) -> Result<u32, Refusal>
+    ensures { wrote_of result out.new ≡ convert_call sort to src.now used out.old }
 {
     if too_long(out.len()) {
-        return refused(BAD_BUFFER);
+        return Err(Refusal::BadBuffer);
     }
     if checker::bad_buffer(src, used) {
-        return refused(BAD_BUFFER);
+        return Err(Refusal::BadBuffer);
     }
     if is_already(src, used, sort, to) {
-        return refused(BAD_HEADER);
+        return Err(Refusal::BadHeader);
     }
-    let checked = check(src, used, sort);
-    if checked.number != 0 {
-        return refused(checked.number);
-    }
-    let h = record::read_header(src);
+    let h = check(src, used, sort)?;
     convert_checked(src, used, sort, to, h, out)
-}
-
-pub fn program_to_second(src: &[u8], used: usize, out: &mut [u8]) -> Written
-    ensures { as_wrote result out.new ≡ convert_call program ToSecond src.now used out.old }
-{
-    convert(src, used, Sort::Program, Conversion::ToSecond, out)
-}
-
-pub fn program_to_first(src: &[u8], used: usize, out: &mut [u8]) -> Written
-    ensures { as_wrote result out.new ≡ convert_call program ToFirst src.now used out.old }
-{
-    convert(src, used, Sort::Program, Conversion::ToFirst, out)
-}
-
-pub fn term_to_second(src: &[u8], used: usize, out: &mut [u8]) -> Written
-    ensures { as_wrote result out.new ≡ convert_call term ToSecond src.now used out.old }
-{
-    convert(src, used, Sort::Term, Conversion::ToSecond, out)
-}
-
-pub fn term_to_first(src: &[u8], used: usize, out: &mut [u8]) -> Written
-    ensures { as_wrote result out.new ≡ convert_call term ToFirst src.now used out.old }
-{
-    convert(src, used, Sort::Term, Conversion::ToFirst, out)
 }

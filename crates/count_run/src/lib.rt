@@ -15,31 +15,30 @@ use count_step::look::look;
 use count_step::make::make;
 use count_step::standing::way_of;
 use run::{RunEnd, Tally};
+use state_words::WORDS;
+use state_words::program::Program;
 
-// The run from the state that the words hold, n being open in it, of the program whose first command stands at `start`, with
-// values up to `largest`. No record is left, so the answer's used length is 0.
+// The run of the program from the state that the words hold, n being open in it. No record is left, so the answer's used length
+// is 0.
 pub fn run_words(
-    buf: &[u8],
-    used: usize,
-    words: &mut [u32],
+    program: Program,
+    words: &mut [u32; WORDS],
     n: usize,
     store: &mut [u32],
-    start: usize,
-    largest: u32,
     budget: u32,
 ) -> RunEnd
-    requires { SomeState start used n buf.now words.old (length store.old) }
-    ensures { (h : Header) (P : Block) (s : State) → largest ≡ largest_of h → Holds start used n P s buf.now words.old (length store.old) → Gives result words.new store.new (counted_to P budget (counts h budget (record { state = s; store = store.old }))) }
+    requires { SomeState program.start program.used n program.bytes.now words.old (length store.old) }
+    ensures { (h : Header) (P : Block) (s : State) → program.entry.largest ≡ largest_of h → Holds program.entry.start program.entry.used n P s program.entry.bytes.now words.old (length store.old) → Gives result words.new store.new (counted_to P budget (counts h budget (record { state = s; store = store.old }))) }
 {
     let mut many = n;
     let mut tally = Tally::start(budget);
     loop {
-        let way = way_of(buf, used, words, many, start);
-        let outcome = look(buf, used, words, many, store, start, largest, way);
+        let way = way_of(program, words, many);
+        let outcome = look(program, words, many, store, way);
         if run::ends(outcome, tally) {
             return run::answer(outcome, tally, 0);
         }
-        many = make(buf, used, words, many, store, start, way);
+        many = make(program, words, many, store, way);
         tally = tally.advance();
     }
 }

@@ -7,42 +7,33 @@ use lib.ListN.{get_or, length, set}
 use native.Mathlib.Omega.{arith}
 use Rattle.buffer.specs.LittleEndian.{val}
 use Rattle.buffer.specs.Slice.{part}
-use Rattle.record.specs.Program.{block_size, bound_kind, bound_number, expr_kind, expr_number}
-use Rattle.rules.specs.Scope.{BoundWithin, Within}
+use Rattle.record.specs.Kind.{kind_named}
+use Rattle.record.specs.declared.kind.Kind.{Kind}
+use Rattle.record.specs.declared.kind.Kind.TheVariants.{Literal, MinusOne, PlusOne, Variable}
+use Rattle.record.proofs.KindLaws.{dec-leaf, inc-leaf, lit-leaf, named-number, var-leaf}
+use Rattle.record.specs.Program.{block_size, expr_kind, expr_number}
+use Rattle.rules.specs.Scope.{Within}
 use Rattle.rules.specs.Step.{bound_value}
 use Rattle.rules.specs.Store.{lookup, minus_one, up_to, update}
-use Rattle.rules.specs.Syntax.{Block, Bound, Expr, loop}
+use Rattle.rules.specs.Syntax.{Block, Bound, Expr, assign, dec, inc, lit, loop, var}
 use Rattle.rules.proofs.StoreLaws.{up_to-iff}
-use Rattle.place.proofs.ProgramBytesLaws.{expr_kind-range}
-use Rattle.place.proofs.ProgramNumberLaws.{expr-variable}
-use Rattle.command.proofs.LookLaws.{assign-read, loop-read}
-use Rattle.counting.specs.Counting.{State}
-use Rattle.counting.specs.Entries.{Entry}
-use Rattle.state_words.specs.Entry.{entry_popped, entry_pushed, place_in, place_put}
+use Rattle.command.specs.Plan.{leaf_value}
+use Rattle.command.proofs.LookLaws.{assign-read, bound-leaf, bound_leaf-value, expr-leaf, loop-read}
+use Rattle.counting.specs.Counting.{State, here}
+use Rattle.counting.specs.Entries.{Entry, within}
+use Rattle.counting.specs.Frames.{place_word}
+use Rattle.state_words.specs.Entry.{entry_in_play, entry_popped, last_loop, mark_by, place_in, place_put, pushed}
 use Rattle.count_step.specs.Inner.{Inner, Shut}
-use Rattle.count_step.specs.Makes.{IsAssign, IsEnd, IsLoop, IsShut, IsSummed, MakesAs, StandsOn, is_assign, is_end, is_loop, is_shut, is_summed}
+use Rattle.count_step.specs.Makes.{IsAssign, IsEnd, IsLoop, IsShut, IsSummed, Makes, MakesAs, StandsOn, is_assign, is_end, is_loop, is_shut, is_summed}
+use Rattle.state_words.specs.Numbers.{kind_at, number_at, variable_at}
 use Rattle.count_step.specs.Words.{again_words, body_words, first_words, next_words, unrolled_words}
 use Rattle.count_step.proofs.AroundLaws.{here-read, last_end, loop-record, shut-read, sum-read}
 use Rattle.count_step.proofs.EndLaws.{EndRead, end_read, end-some, not_none, way_next, way-pop}
 use Rattle.count_step.proofs.InnerLaws.{inner-at, inner-scope}
+use Rattle.count_step.proofs.StandingLaws.{here-asks}
 use Rattle.count_step.proofs.ShutLaws.{way-first, way-index, way-no-turn, way-unroll}
 use Rattle.count_step.proofs.WayLaws.{goes-inc, loop-few, way-dec, way-enter, way-enter-0, way-inc, way-lit, way-sum, way-var}
 use Rattle.count_step.proofs.WordsLaws.{again-false, again-true}
-
-positive : (v : ℕ) → (v ≡ 0 → ⊥) → v ≡ suc (v - 1)
-positive zero h = absurd (h refl)
-positive (suc v) h = omega arith
-
--- THE NUMBERS OF A COMMAND at the place i, in bytes whose program has its first command at `start`
-module _ (start : ℕ) (buf : List ℕ) where
-  abbrev pub number_at : ℕ → ℕ
-  number_at i = val (part buf (start + i + 12) 4)
-
-  abbrev pub kind_at : ℕ → ℕ
-  kind_at i = val (part buf (start + i + 10) 2)
-
-  abbrev pub variable_at : ℕ → ℕ
-  variable_at i = val (part buf (start + i + 4) 4)
 
 -- where the record of an entry ends, and its variable, by the place w that is read of the entry
 module _ (start : ℕ) (buf words : List ℕ) (m w g : ℕ) (e : w ≡ get_or words (3 + 6 * m + 1) 0) where
@@ -52,21 +43,28 @@ module _ (start : ℕ) (buf words : List ℕ) (m w g : ℕ) (e : w ≡ get_or wo
   pub read-variable : g ≡ val (part buf (start + w + 4) 4) → g ≡ variable_at start buf (get_or words (3 + 6 * m + 1) 0)
   read-variable f = f ∙ ap (variable_at start buf) e
 
-kind-inc : (e : Expr) (k : ℕ) → k ≡ expr_kind e → (k ≡ 16 → ⊥) → (k ≡ 17 → ⊥) → (k ≡ 19 → ⊥) → expr_kind e ≡ 18
-kind-inc e k f a b d = omega (arith, expr_kind-range e)
+plus_one-leaf : (m : ℕ) (store : List ℕ) → leaf_value PlusOne m store ≡ lookup store m
+unfolding leaf_value
+plus_one-leaf m store = refl
 
 -- AN ASSIGNMENT
 
 pub record AssignAsks (start n : ℕ) (buf words store : List ℕ) (i : ℕ) : Type 0 where
   pub room : start + i + 16 ≤ length buf
   pub low : length buf ≤ 16384
-  pub long : length words ≡ 189
   pub few : n ≤ 31
   pub variable : Within (length store) (variable_at start buf i)
-  pub number : (kind_at start buf i ≡ 16 → ⊥) → Within (length store) (number_at start buf i)
-  pub fits : (kind_at start buf i ≡ 16 → ⊥) → (kind_at start buf i ≡ 17 → ⊥) → (kind_at start buf i ≡ 19 → ⊥) → lookup store (number_at start buf i) + 1 < 2 ^ 32
+  pub number : {k : Kind} {m : ℕ} → k ≡ kind_named (kind_at start buf i) → m ≡ number_at start buf i → (k ≡ Literal → ⊥) → Within (length store) m
+  pub fits : {k : Kind} {m v : ℕ} → k ≡ kind_named (kind_at start buf i) → m ≡ number_at start buf i → v ≡ leaf_value k m store → k ≡ PlusOne → v + 1 < 2 ^ 32
+
+-- what code asks to read the place
+abbrev PlaceAsks : ℕ → List ℕ → Type 0
+PlaceAsks n words = (n ≤ 31) × (mark_by (last_loop words n) 0 ≤ get_or words (place_word n) 0)
 
 module _ (start n : ℕ) (buf words store : List ℕ) where
+  pub assign-place : StandsOn start n IsAssign buf words store → PlaceAsks n words
+  assign-place (used, P, es, j, _, _, is_assign x e r, h, g) = here-asks h
+
   pub assign-asks : StandsOn start n IsAssign buf words store → (i : ℕ) → i ≡ place_in words n → AssignAsks start n buf words store i
   assign-asks (used, P, es, j, _, _, is_assign x e r, h, g) i f =
       subst (AssignAsks start n buf words store) {x = j} {y = i} (sym (here-read h).place ∙ sym f) asks
@@ -79,15 +77,14 @@ module _ (start n : ℕ) (buf words store : List ℕ) where
           record {
             room = omega (arith, v.room);
             low = h.holds.low;
-            long = p.long;
             few = omega (arith, p.count, p.few);
             variable = (omega (arith, w.0.0, v.variable), omega (arith, w.0.1, v.variable));
-            number = λ k. let u = expr-variable (length store) e (λ z. k (v.kind ∙ z)) w.1 in (omega (arith, u.0, v.number), omega (arith, u.1, v.number));
-            fits = λ a b d.
-                let q = kind-inc e (kind_at start buf j) v.kind a b d in
+            number = λ ek em. expr-leaf e (ek ∙ ap kind_named v.kind) (em ∙ v.number) w.1;
+            fits = λ {k} {m} ek em ev is.
+                let q : expr_kind e ≡ 18 = sym v.kind ∙ named-number (sym is ∙ ek) in
                 let l = (up_to-iff g.0 (suc (lookup store (expr_number e)))).0 (goes-inc h store words store (up_to g.0) q g.2 g.3) in
-                let k : lookup store (number_at start buf j) ≡ lookup store (expr_number e) = ap (lookup store) v.number in
-                omega (arith, g.1);
+                let value = ev ∙ ap (λ (z : Kind). leaf_value z m store) is ∙ plus_one-leaf m store ∙ ap (lookup store) (em ∙ v.number) in
+                omega (arith, g.1, value);
           }
 
   module _ (i : ℕ) (f : i ≡ place_in words n) (ws after : List ℕ) where
@@ -95,45 +92,60 @@ module _ (start n : ℕ) (buf words store : List ℕ) where
     abbrev Made : Type 0
     Made = MakesAs start n IsAssign buf words store ws after n
 
-    pub assign-lit : kind_at start buf i ≡ 16 → ws ≡ place_put words n (i + 16) → after ≡ update store (variable_at start buf i) (number_at start buf i) → Made
-    assign-lit q w a used P es j _ _ (is_assign x e r) h =
-        let s : i ≡ j = f ∙ (here-read h).place in
-        let v = assign-read (inner-at h) in
-        way-lit h store ws after (sym v.kind ∙ ap (kind_at start buf) (sym s) ∙ q) (w ∙ ap (λ (z : ℕ). place_put words n (z + 16)) s)
-        (a ∙ ap₂ (update store) (ap (variable_at start buf) s ∙ v.variable) (ap (number_at start buf) s ∙ v.number))
+    -- by the expression's leaf that code read, its kind k and its number m, and the value v that it names
+    module _ {k : Kind} {m v : ℕ} (ek : k ≡ kind_named (kind_at start buf i)) (em : m ≡ number_at start buf i) (ev : v ≡ leaf_value k m store) where
+      pub assign-bind : (k ≡ PlusOne → ⊥) → (k ≡ MinusOne → ⊥) → ws ≡ place_put words n (i + 16) → after ≡ update store (variable_at start buf i) v → Made
+      unfolding leaf_value
+      assign-bind no-inc no-dec w a used P es j _ _ (is_assign x e r) h = by-expr e h
+        where
+          s : {e : Expr} → Inner start used n P es j (assign x e r) (here (assign x e r)) buf words (length store) → i ≡ j
+          s h = f ∙ (here-read h).place
 
-    pub assign-var : kind_at start buf i ≡ 17 → ws ≡ place_put words n (i + 16) → after ≡ update store (variable_at start buf i) (lookup store (number_at start buf i)) → Made
-    assign-var q w a used P es j _ _ (is_assign x e r) h =
-        let s : i ≡ j = f ∙ (here-read h).place in
-        let v = assign-read (inner-at h) in
-        way-var h store ws after (sym v.kind ∙ ap (kind_at start buf) (sym s) ∙ q) (w ∙ ap (λ (z : ℕ). place_put words n (z + 16)) s)
-        (a ∙ ap₂ (λ (y z : ℕ). update store y (lookup store z)) (ap (variable_at start buf) s ∙ v.variable) (ap (number_at start buf) s ∙ v.number))
+          by-expr : (e : Expr) → Inner start used n P es j (assign x e r) (here (assign x e r)) buf words (length store) → Makes P (within es (here (assign x e r))) store ws after n
+          by-expr (lit y) h =
+              let u = assign-read (inner-at h) in
+              let kind : k ≡ Literal = ek ∙ ap (λ (z : ℕ). kind_named (kind_at start buf z)) (s h) ∙ ap kind_named u.kind ∙ (lit-leaf y).0 in
+              let value : v ≡ expr_number (lit y) = ev ∙ ap (λ (z : Kind). leaf_value z m store) kind ∙ em ∙ ap (number_at start buf) (s h) ∙ u.number in
+              way-lit h store ws after (named-number (sym (lit-leaf y).0)) (w ∙ ap (λ (z : ℕ). place_put words n (z + 16)) (s h)) (a ∙ ap₂ (update store) (ap (variable_at start buf) (s h) ∙ u.variable) value)
+          by-expr (var y) h =
+              let u = assign-read (inner-at h) in
+              let kind : k ≡ Variable = ek ∙ ap (λ (z : ℕ). kind_named (kind_at start buf z)) (s h) ∙ ap kind_named u.kind ∙ (var-leaf y).0 in
+              let value : v ≡ lookup store (expr_number (var y)) = ev ∙ ap (λ (z : Kind). leaf_value z m store) kind ∙ ap (lookup store) (em ∙ ap (number_at start buf) (s h) ∙ u.number) in
+              way-var h store ws after (named-number (sym (var-leaf y).0)) (w ∙ ap (λ (z : ℕ). place_put words n (z + 16)) (s h)) (a ∙ ap₂ (update store) (ap (variable_at start buf) (s h) ∙ u.variable) value)
+          by-expr (inc y) h =
+              absurd (no-inc (ek ∙ ap (λ (z : ℕ). kind_named (kind_at start buf z)) (s h) ∙ ap kind_named (assign-read (inner-at h)).kind ∙ (inc-leaf y).0))
+          by-expr (dec y) h =
+              absurd (no-dec (ek ∙ ap (λ (z : ℕ). kind_named (kind_at start buf z)) (s h) ∙ ap kind_named (assign-read (inner-at h)).kind ∙ (dec-leaf y).0))
 
-    pub assign-dec : kind_at start buf i ≡ 19 → ws ≡ set (set words 1 1) 2 (minus_one (lookup store (number_at start buf i))) → after ≡ store → Made
-    assign-dec q w a used P es j _ _ (is_assign x e r) h =
-        let s : i ≡ j = f ∙ (here-read h).place in
-        let v = assign-read (inner-at h) in
-        way-dec h store ws after (sym v.kind ∙ ap (kind_at start buf) (sym s) ∙ q)
-        (w ∙ ap (λ (z : ℕ). set (set words 1 1) 2 (minus_one (lookup store z))) (ap (number_at start buf) s ∙ v.number)) a
+      pub assign-dec : k ≡ MinusOne → (d : ℕ) → d ≡ minus_one v → ws ≡ set (set words 1 1) 2 d → after ≡ store → Made
+      unfolding leaf_value
+      assign-dec is d ed w a used P es j _ _ (is_assign x e r) h =
+          let s : i ≡ j = f ∙ (here-read h).place in
+          let u = assign-read (inner-at h) in
+          let value : v ≡ lookup store (expr_number e) = ev ∙ ap (λ (z : Kind). leaf_value z m store) is ∙ ap (lookup store) (em ∙ ap (number_at start buf) s ∙ u.number) in
+          way-dec h store ws after (sym u.kind ∙ ap (kind_at start buf) (sym s) ∙ named-number (sym is ∙ ek)) (w ∙ ap (λ (z : ℕ). set (set words 1 1) 2 z) (ed ∙ ap minus_one value)) a
 
-    pub assign-inc : (kind_at start buf i ≡ 16 → ⊥) → (kind_at start buf i ≡ 17 → ⊥) → (kind_at start buf i ≡ 19 → ⊥) → ws ≡ set (set words 1 1) 2 (lookup store (number_at start buf i) + 1) → after ≡ store → Made
-    assign-inc a b d w u used P es j _ _ (is_assign x e r) h =
-        let s : i ≡ j = f ∙ (here-read h).place in
-        let v = assign-read (inner-at h) in
-        way-inc h store ws after (kind-inc e (kind_at start buf i) (ap (kind_at start buf) s ∙ v.kind) a b d)
-        (w ∙ ap (λ (z : ℕ). set (set words 1 1) 2 (lookup store z + 1)) (ap (number_at start buf) s ∙ v.number)
-        ∙ ap (λ (z : ℕ). set (set words 1 1) 2 z) {x = lookup store (expr_number e) + 1} {y = suc (lookup store (expr_number e))} (omega arith)) u
+      pub assign-inc : k ≡ PlusOne → ws ≡ set (set words 1 1) 2 (v + 1) → after ≡ store → Made
+      unfolding leaf_value
+      assign-inc is w a used P es j _ _ (is_assign x e r) h =
+          let s : i ≡ j = f ∙ (here-read h).place in
+          let u = assign-read (inner-at h) in
+          let value : v ≡ lookup store (expr_number e) = ev ∙ ap (λ (z : Kind). leaf_value z m store) is ∙ ap (lookup store) (em ∙ ap (number_at start buf) s ∙ u.number) in
+          way-inc h store ws after (sym u.kind ∙ ap (kind_at start buf) (sym s) ∙ named-number (sym is ∙ ek))
+          (w ∙ ap (λ (z : ℕ). set (set words 1 1) 2 z) {x = v + 1} {y = suc (lookup store (expr_number e))} (omega arith)) a
 
 -- A SUM THAT WAITS
 
 pub record SumAsks (start n : ℕ) (buf words store : List ℕ) (i : ℕ) : Type 0 where
   pub room : start + i + 16 ≤ length buf
   pub low : length buf ≤ 16384
-  pub long : length words ≡ 189
   pub few : n ≤ 31
   pub variable : Within (length store) (variable_at start buf i)
 
 module _ (start n : ℕ) (buf words store : List ℕ) where
+  pub sum-place : StandsOn start n IsSummed buf words store → PlaceAsks n words
+  sum-place (used, P, es, j, _, _, is_summed x e v r, h, g) = let p = sum-read h in (omega (arith, p.count, p.few), p.room)
+
   pub sum-asks : StandsOn start n IsSummed buf words store → (i : ℕ) → i ≡ place_in words n → SumAsks start n buf words store i
   sum-asks (used, P, es, j, _, _, is_summed x e v r, h, g) i f =
       subst (SumAsks start n buf words store) {x = j} {y = i} (sym (sum-read h).place ∙ sym f) asks
@@ -146,7 +158,6 @@ module _ (start n : ℕ) (buf words store : List ℕ) where
           record {
             room = omega (arith, a.room);
             low = h.holds.low;
-            long = p.long;
             few = omega (arith, p.count, p.few);
             variable = (omega (arith, w.0.0, a.variable), omega (arith, w.0.1, a.variable));
           }
@@ -163,14 +174,13 @@ module _ (start n : ℕ) (buf words store : List ℕ) where
 pub record LoopAsks (start n : ℕ) (buf words store : List ℕ) (i : ℕ) : Type 0 where
   pub room : start + i + 20 ≤ length buf
   pub low : length buf ≤ 16384
-  pub long : length words ≡ 189
   pub few : n < 31
-  pub bound : Bound
-  pub kind : kind_at start buf i ≡ bound_kind bound
-  pub number : number_at start buf i ≡ bound_number bound
-  pub scope : BoundWithin (length store) bound
+  pub number : {k : Kind} {m : ℕ} → k ≡ kind_named (kind_at start buf i) → m ≡ number_at start buf i → (k ≡ Literal → ⊥) → Within (length store) m
 
 module _ (start n : ℕ) (buf words store : List ℕ) where
+  pub loop-place : StandsOn start n IsLoop buf words store → PlaceAsks n words
+  loop-place (used, P, es, j, _, _, is_loop x m q r, h, g) = here-asks h
+
   pub loop-asks : StandsOn start n IsLoop buf words store → (i : ℕ) → i ≡ place_in words n → LoopAsks start n buf words store i
   loop-asks (used, P, es, j, _, _, is_loop x m q r, h, g) i f =
       subst (LoopAsks start n buf words store) {x = j} {y = i} (sym (here-read h).place ∙ sym f) asks
@@ -181,29 +191,21 @@ module _ (start n : ℕ) (buf words store : List ℕ) where
           record {
             room = omega (arith, a.room);
             low = h.holds.low;
-            long = (here-read h).long;
             few = loop-few h;
-            bound = m;
-            kind = a.kind;
-            number = a.number;
-            scope = (inner-scope h).1;
+            number = λ ek en. bound-leaf m (ek ∙ ap kind_named a.kind) (en ∙ a.number) (inner-scope h).1;
           }
 
-  module _ (i : ℕ) (f : i ≡ place_in words n) (v : ℕ) (b : (m : Bound) → kind_at start buf i ≡ bound_kind m → number_at start buf i ≡ bound_number m → v ≡ bound_value store m) (ws : List ℕ) where
-    pub loop-makes-0 : v ≡ 0 → ws ≡ entry_pushed words n 2 i 0 0 1 0 → MakesAs start n IsLoop buf words store ws store (n + 1)
-    loop-makes-0 z w used P es j _ _ (is_loop x m q r) h =
-        let s : i ≡ j = f ∙ (here-read h).place in
-        let a = loop-read (inner-at h) in
-        way-enter-0 h store ws store (sym (b m (ap (kind_at start buf) s ∙ a.kind) (ap (number_at start buf) s ∙ a.number)) ∙ z)
-        (w ∙ ap (λ (u : ℕ). entry_pushed words n 2 u 0 0 1 0) s) refl
-
-    pub loop-makes : (v ≡ 0 → ⊥) → ws ≡ entry_pushed words n 2 i v (v - 1) 0 0 → MakesAs start n IsLoop buf words store ws store (n + 1)
-    loop-makes z w used P es j _ _ (is_loop x m q r) h =
-        let s : i ≡ j = f ∙ (here-read h).place in
-        let a = loop-read (inner-at h) in
-        let e : v ≡ suc (v - 1) = positive v z in
-        way-enter h store ws store (v - 1) (sym (b m (ap (kind_at start buf) s ∙ a.kind) (ap (number_at start buf) s ∙ a.number)) ∙ e)
-        (w ∙ ap₂ (λ (u y : ℕ). entry_pushed words n 2 u y (v - 1) 0 0) s e) refl
+  pub loop-makes : (i : ℕ) → i ≡ place_in words n → {k : Kind} {m v : ℕ} → k ≡ kind_named (kind_at start buf i) → m ≡ number_at start buf i → v ≡ leaf_value k m store
+      → (ws : List ℕ) → ws ≡ pushed words n (entry_in_play i v) → MakesAs start n IsLoop buf words store ws store (n + 1)
+  unfolding entry_in_play
+  loop-makes i f {v = v} ek em ev ws w used P es j _ _ (is_loop x m q r) h =
+      let s : i ≡ j = f ∙ (here-read h).place in
+      let a = loop-read (inner-at h) in
+      by-turns v (sym (ev ∙ bound_leaf-value store m (ek ∙ ap kind_named (ap (kind_at start buf) s ∙ a.kind)) (em ∙ ap (number_at start buf) s ∙ a.number))) (w ∙ ap (λ (u : ℕ). pushed words n (entry_in_play u v)) s)
+    where
+      by-turns : (v : ℕ) → bound_value store m ≡ v → ws ≡ pushed words n (entry_in_play j v) → Makes P (within es (here (loop x m q r))) store ws store (n + 1)
+      by-turns zero e w = way-enter-0 h store ws store e w refl
+      by-turns (suc v) e w = way-enter h store ws store v e w refl
 
 -- THE END OF A BLOCK
 
@@ -227,7 +229,6 @@ module _ (start n : ℕ) (buf words : List ℕ) where
 -- A LOOP AT NO PLACE IN ITS BODY
 
 pub record ShutAsks (start : ℕ) (buf words store : List ℕ) (m : ℕ) : Type 0 where
-  pub long : length words ≡ 189
   pub few : m < 31
   pub room : start + get_or words (3 + 6 * m + 1) 0 + 20 ≤ length buf
   pub low : length buf ≤ 16384
@@ -250,7 +251,6 @@ module _ (start n : ℕ) (buf words store : List ℕ) where
           let v : variable_at start buf (get_or words (3 + 6 * length es + 1) 0) ≡ x = ap (variable_at start buf) s.at ∙ a.variable in
           let z : val (part buf (start + get_or words (3 + 6 * length es + 1) 0) 2) ≡ 20 + block_size q = ap (λ (d : ℕ). val (part buf (start + d) 2)) s.at ∙ o.stored in
           record {
-            long = s.long;
             few = s.few;
             room = omega (arith, a.room, s.at);
             low = h.holds.low;

@@ -31,11 +31,15 @@ use Rattle.counting.proofs.EntriesLaws.{within-close, within-next, within-over}
 use Rattle.state_words.specs.Entry.{place_in}
 use Rattle.count_step.specs.Inner.{Holds, Inner, Shut, shut_at_zero, shut_storing, shut_unrolling}
 use Rattle.count_step.specs.Makes.{over_expr, reads_as}
-use Rattle.count_step.specs.Standing.{kind_of, over_first}
+use Rattle.count_step.specs.declared.standing.Standing.{Standing}
+use Rattle.count_step.specs.declared.standing.Standing.TheVariants as standing
+use Rattle.count_step.specs.declared.standing.Way.{Way}
+use Rattle.count_step.specs.declared.standing.Way.TheVariants.{Here}
+use Rattle.count_step.specs.Standing.{IsWay, way_here, way_shut, way_sum, kind_of, over_first}
 use Rattle.count_step.specs.Words.{shut_words}
 use Rattle.count_step.proofs.AroundLaws.{Around, around, around_block, around_none, around_turn, here-read}
 use Rattle.count_step.proofs.InnerLaws.{View, inner-at, inner-scope, view, view_here, view_shut, view_sum}
-use Rattle.count_step.proofs.ShapeLaws.{here-open, not-shut, sum-open}
+use Rattle.count_step.proofs.ShapeLaws.{is-here, here-open, not-shut, sum-open}
 use Rattle.count_step.proofs.StandingLaws.{same_place}
 
 module _ (ok : ℕ → Bool) where
@@ -155,17 +159,23 @@ module _ (ok : ℕ → Bool) where
             (reads-next (within es (summed x y v r)) store (next-within es (summed x y v r) store (stored_next x y v r store)))
         by-view (view_shut es i x m q r u e o a) = absurd (not-shut o a t)
 
+    -- at no place
+    pub look-away : {p : Way} → IsWay start used n buf words p → ((k : Standing) → p ≡ Here k → ⊥) → spent ≡ reads_as ok s store
+    look-away (way_shut t e) z = look-shut t
+    look-away (way_sum t w e) z = look-sum t w
+    look-away (way_here t w f) z = let v = is-here h t w in absurd (z (kind_of v.2) (f P v.0 v.1 v.2 (length store) v.4))
+
   -- the ways out where nothing is open at the place, which is what the state s is
   module _ {start used n : ℕ} {P : Block} {es : List Entry} {i : ℕ} {r : Block} {buf words : List ℕ} {count : ℕ} (h : Inner start used n P es i r (here r) buf words count) (store : List ℕ) (s : State) (is : s ≡ within es (here r)) where
     reads-is : (o : Outcome) → o ≡ reads_as ok (within es (here r)) store → o ≡ reads_as ok s store
     reads-is o e = subst (λ (z : State). o ≡ reads_as ok z store) (sym is) e
 
-    kind-empty : (b : Block) → kind_of b ≡ 0 → b ≡ empty
+    kind-empty : (b : Block) → kind_of b ≡ standing.End → b ≡ empty
     unfolding kind_of
     kind-empty empty e = refl
-    kind-empty (assign x y b) e = absurd (omega arith)
-    kind-empty (loop x m q b) e = absurd (omega arith)
-    kind-empty (nest q b) e = absurd (omega arith)
+    kind-empty (assign x y b) e = absurd (cc)
+    kind-empty (loop x m q b) e = absurd (cc)
+    kind-empty (nest q b) e = absurd (cc)
 
     finishes : (ds : List Entry) (b : Block) → ds ≡ [] → b ≡ empty → step_state ok (within ds (here b)) store ≡ finished store
     unfolding within step_state step_here
@@ -175,7 +185,7 @@ module _ (ok : ℕ → Bool) where
     closes ds fs b e f g =
         (record { state = within fs (close e); store = store }, ap₂ (λ (x : List Entry) (y : Block). step_state ok (within x (here y)) store) f g ∙ within-close ok store fs e)
 
-    pub look-finished : kind_of r ≡ 0 → n ≡ 0 → is_finished ≡ reads_as ok s store
+    pub look-finished : kind_of r ≡ standing.End → n ≡ 0 → is_finished ≡ reads_as ok s store
     look-finished z f = by-around (around h)
       where
         by-around : Around h → is_finished ≡ reads_as ok s store
@@ -183,7 +193,7 @@ module _ (ok : ℕ → Bool) where
         by-around (around_block fs p q o e y a b c d) = absurd (omega (arith, y.count, f))
         by-around (around_turn fs p x c d m q o e y a b g u) = absurd (omega (arith, y.count, f))
 
-    pub look-closes : kind_of r ≡ 0 → (n ≡ 0 → ⊥) → spent ≡ reads_as ok s store
+    pub look-closes : kind_of r ≡ standing.End → (n ≡ 0 → ⊥) → spent ≡ reads_as ok s store
     look-closes z f = by-around (around h)
       where
         by-around : Around h → spent ≡ reads_as ok s store
@@ -201,7 +211,7 @@ module _ (ok : ℕ → Bool) where
 
 -- WHAT CODE ASKS to walk to the first command: one stands there, at q
 
-pub kind-some : (b : Block) → (kind_of b ≡ 0 → ⊥) → b ≡ empty → ⊥
+pub kind-some : (b : Block) → (kind_of b ≡ standing.End → ⊥) → b ≡ empty → ⊥
 unfolding kind_of
 kind-some b n e = n (ap kind_of e)
 
@@ -223,13 +233,13 @@ module _ {start used n : ℕ} {P : Block} {es : List Entry} {i : ℕ} {r : Block
     -- the command that the rules act on, behind the heads of these levels
     pub record SpotAsks (levels : ℕ) : Type 0 where
       pub is : Spot (spot r)
-      pub low : start + j + 4 * levels ≤ 16384
-      pub at : BlockAt buf (start + j + 4 * levels) (spot r)
+      pub low : start + (j + 4 * levels) ≤ 16384
+      pub at : BlockAt buf (start + (j + 4 * levels)) (spot r)
       pub scope : BlockWithin count (spot r)
 
     pub spot-asks : (levels : ℕ) → levels ≡ length (path r) → SpotAsks levels
     spot-asks levels e =
-        let at : BlockAt buf (start + j + 4 * levels) (spot r) = subst (λ (m : ℕ). BlockAt buf (start + j + 4 * m) (spot r)) (sym e) (spot-at walk_at) in
+        let at : BlockAt buf (start + (j + 4 * levels)) (spot r) = subst (λ (m : ℕ). BlockAt buf (start + (j + 4 * m)) (spot r)) (sym e) (subst (λ (m : ℕ). BlockAt buf m (spot r)) {x = start + j + 4 * length (path r)} {y = start + (j + 4 * length (path r))} (omega arith) (spot-at walk_at)) in
         record {
           is = spot_is r walk-some;
           low = omega (arith, block_room at, h.holds.low);

@@ -6,19 +6,21 @@ use mathlib.Core.List.{List, [], ◌∷◌}
 use borrow.Author.Tests.{le-ltb}
 use lib.ListN.{get_or, length, length-append}
 use native.Mathlib.Omega.{arith}
-use Rattle.rules.specs.Syntax.{Block, Bound, Expr, assign, empty, loop, nest}
+use Rattle.rules.specs.Syntax.{Block, Bound, Expr, assign, loop}
 use Rattle.rules.proofs.Tests.{true-false}
 use Rattle.counting.specs.Counting.{State, here, summed}
 use Rattle.counting.specs.Depth.{open_count}
 use Rattle.counting.specs.Entries.{Entry, open_block, open_turn, within}
-use Rattle.counting.specs.Frames.{place_word}
 use Rattle.counting.specs.Held.{body_mark, held_block, held_loop}
 use Rattle.counting.proofs.InnermostEdits.{Framed, words-summed}
 use Rattle.counting.proofs.WordEdits.{num}
-use Rattle.state_words.specs.Entry.{last_loop, mark_by}
 use Rattle.state_words.proofs.EntryLaws.{loop-none}
-use Rattle.count_step.specs.Inner.{Holds, Inner, Shut}
-use Rattle.count_step.specs.Standing.{Way, kind_of, way_here, way_shut, way_sum}
+use Rattle.count_step.specs.Inner as inner
+use Rattle.count_step.specs.Inner.{Holds, Inner}
+use Rattle.count_step.specs.declared.standing.Standing.{Standing}
+use Rattle.count_step.specs.declared.standing.Way.{Way}
+use Rattle.count_step.specs.declared.standing.Way.TheVariants.{Here, Shut, Waits}
+use Rattle.count_step.specs.Standing.{IsWay, kind_of, way_here, way_shut, way_sum}
 use Rattle.count_step.specs.Words.{shut_words}
 use Rattle.count_step.proofs.AroundLaws.{entry_read, entry-shut, here-read, here-same, shut-read, sum-read}
 use Rattle.count_step.proofs.InnerLaws.{Last, View, inner-open, last, last_block, last_none, last_turn, view, view_here, view_shut, view_sum}
@@ -47,34 +49,18 @@ pub sum-open : {start used n : ℕ} {P : Block} {es : List Entry} {i x : ℕ} {e
 sum-open {P = P} {es = es} {i = i} {x = x} {e = e} {v = v} {r = r} h = open-words h 1 v (h.holds.same ∙ words-summed P es i x e v r h.place) (sum-read h).count (last h)
 
 pub not-shut : {start used n : ℕ} {P : Block} {es : List Entry} {i x : ℕ} {m : Bound} {q r : Block} {u : State} {buf words : List ℕ} {count : ℕ}
-    → Shut x q r u → Inner start used n P es i (loop x m q r) u buf words count → shut_words words n ≡ false → ⊥
+    → inner.Shut x q r u → Inner start used n P es i (loop x m q r) u buf words count → shut_words words n ≡ false → ⊥
 not-shut o a t = true-false (sym (shut-read o a).shut ∙ t)
-
-kind-low : (r : Block) → kind_of r ≤ 3
-unfolding kind_of
-kind-low empty = omega arith
-kind-low (assign x e r) = omega arith
-kind-low (loop x m q r) = omega arith
-kind-low (nest q r) = omega arith
 
 module _ {start used n : ℕ} {P : Block} {s : State} {buf words : List ℕ} {count : ℕ} (h : Holds start used n P s buf words count) where
   -- WHAT CODE ASKS of any state
-  pub holds-reads : (n ≤ 31) × (length words ≡ 189)
+  pub holds-reads : n ≤ 31
   holds-reads = by-view (view h)
     where
-      by-view : View start used n P s buf words count → (n ≤ 31) × (length words ≡ 189)
-      by-view (view_here es i r e g) = let p = here-read g in (omega (arith, p.count, p.few), p.long)
-      by-view (view_sum es i x y v r e q g) = let p = sum-read g in (omega (arith, p.count, p.few), p.long)
-      by-view (view_shut es i x m q r t e u g) = let p = shut-read u g in (omega (arith, p.count, p.few), p.long)
-
-  -- and of one that is not shut, to read its place
-  pub open-room : shut_words words n ≡ false → mark_by (last_loop words n) 0 ≤ get_or words (place_word n) 0
-  open-room t = by-view (view h)
-    where
-      by-view : View start used n P s buf words count → mark_by (last_loop words n) 0 ≤ get_or words (place_word n) 0
-      by-view (view_here es i r e g) = (here-read g).room
-      by-view (view_sum es i x y v r e q g) = (sum-read g).room
-      by-view (view_shut es i x m q r u e o g) = absurd (not-shut o g t)
+      by-view : View start used n P s buf words count → n ≤ 31
+      by-view (view_here es i r e g) = let p = here-read g in omega (arith, p.count, p.few)
+      by-view (view_sum es i x y v r e q g) = let p = sum-read g in omega (arith, p.count, p.few)
+      by-view (view_shut es i x m q r t e u g) = let p = shut-read u g in omega (arith, p.count, p.few)
 
   -- nothing is open at the place
   pub is-here : shut_words words n ≡ false → (get_or words 1 0 ≡ 1 → ⊥)
@@ -87,18 +73,21 @@ module _ {start used n : ℕ} {P : Block} {s : State} {buf words : List ℕ} {co
       by-view (view_shut es i x m q r u e o a) = absurd (not-shut o a t)
 
   -- BY THE WAY of the next step
-  pub way-shut : {p : ℕ} → Way start used n buf words p → p ≡ 4 → shut_words words n ≡ true
+  pub way-shut : {p : Way} → IsWay start used n buf words p → p ≡ Shut → shut_words words n ≡ true
   way-shut (way_shut t e) z = t
-  way-shut (way_sum t w e) z = absurd (omega (arith, e, z))
-  way-shut (way_here t w f) z = let v = is-here t w in absurd (omega (arith, f P v.0 v.1 v.2 count v.4, kind-low v.2, z))
+  way-shut (way_sum t w e) z = absurd (cc)
+  way-shut (way_here t w f) z = let v = is-here t w in let e = f P v.0 v.1 v.2 count v.4 in absurd (cc)
 
-  pub way-sum : {p : ℕ} → Way start used n buf words p → p ≡ 5 → (shut_words words n ≡ false) × (get_or words 1 0 ≡ 1)
-  way-sum (way_shut t e) z = absurd (omega (arith, e, z))
+  pub way-sum : {p : Way} → IsWay start used n buf words p → p ≡ Waits → (shut_words words n ≡ false) × (get_or words 1 0 ≡ 1)
+  way-sum (way_shut t e) z = absurd (cc)
   way-sum (way_sum t w e) z = (t, w)
-  way-sum (way_here t w f) z = let v = is-here t w in absurd (omega (arith, f P v.0 v.1 v.2 count v.4, kind-low v.2, z))
+  way-sum (way_here t w f) z = let v = is-here t w in let e = f P v.0 v.1 v.2 count v.4 in absurd (cc)
 
-  pub way-here : {p : ℕ} → Way start used n buf words p → (p ≡ 4 → ⊥) → (p ≡ 5 → ⊥)
-      → (es : List Entry) × (i : ℕ) × (r : Block) × (s ≡ within es (here r)) × Inner start used n P es i r (here r) buf words count × (p ≡ kind_of r)
-  way-here (way_shut t e) y z = absurd (y e)
-  way-here (way_sum t w e) y z = absurd (z e)
-  way-here (way_here t w f) y z = let v = is-here t w in (v.0, v.1, v.2, v.3, v.4, f P v.0 v.1 v.2 count v.4)
+  pub way-here : {p : Way} → IsWay start used n buf words p → (k : Standing) → p ≡ Here k
+      → (es : List Entry) × (i : ℕ) × (r : Block) × (s ≡ within es (here r)) × Inner start used n P es i r (here r) buf words count × (k ≡ kind_of r)
+  way-here (way_shut t e) k z = absurd (cc)
+  way-here (way_sum t w e) k z = absurd (cc)
+  way-here (way_here t w f) k z =
+      let v = is-here t w in
+      let e = f P v.0 v.1 v.2 count v.4 in
+      (v.0, v.1, v.2, v.3, v.4, cc)

@@ -9,6 +9,8 @@ use Rattle.rules.specs.Syntax.{Block, assign, empty, loop, nest}
 use Rattle.rules.proofs.Tests.{true-false}
 use Rattle.counting.specs.Counting.{State, here, summed}
 use Rattle.counting.specs.Entries.{Entry, within}
+use Rattle.count_step.specs.declared.standing.Standing.{Standing}
+use Rattle.count_step.specs.declared.standing.Standing.TheVariants as standing
 use Rattle.count_step.specs.Makes.{Goes, IsFlat, IsShut, IsSummed, Makes, MakesAs, StandsOn, flat_assign, flat_end, flat_loop, is_shut, is_summed}
 use Rattle.count_step.specs.Standing.{MakesStep, Opened, SomeGoing, kind_of}
 use Rattle.count_step.specs.Words.{shut_words}
@@ -64,16 +66,16 @@ module _ (start used n : ℕ) (buf words store : List ℕ) where
 
 -- WHERE THE BLOCKS ARE OPENED
 
-flat : (k : ℕ) (r : Block) → k ≡ kind_of r → (k ≡ 1 → ⊥) → IsFlat k r (here r)
+flat : (k : Standing) (r : Block) → k ≡ kind_of r → (k ≡ standing.Block → ⊥) → IsFlat k r (here r)
 unfolding kind_of
 flat k empty e n = flat_end e
 flat k (assign x y r) e n = flat_assign x y r e
 flat k (loop x m q r) e n = flat_loop x m q r e
 flat k (nest q r) e n = absurd (n e)
 
--- the state s, at whose place nothing was open, of which `many` are open now; k is the kind of what is left
+-- the state s, at whose place nothing was open, of which `many` are open now; k is what stands first of what is left
 module _ {start used many : ℕ} {P : Block} {es : List Entry} {r : Block} {buf words : List ℕ} (store : List ℕ) (s : State) (is : s ≡ within es (here r))
-    (o : Opened start used many P es r buf words (length store)) (k : ℕ) (e : k ≡ kind_of o.left) (n : k ≡ 1 → ⊥) where
+    (o : Opened start used many P es r buf words (length store)) (k : Standing) (e : k ≡ kind_of o.left) (n : k ≡ standing.Block → ⊥) where
   pub opened-stands : Goes s store → StandsOn start many (IsFlat k) buf words store
   opened-stands g =
       let h : Goes (within es (here r)) store = goes_same s (within es (here r)) store is g in

@@ -7,6 +7,8 @@ use Rattle.counting.specs.Depth.{open_count}
 use Rattle.counting.specs.Entries.{Entry, within}
 use Rattle.counting.specs.CountStep.{count_step, step_state}
 use Rattle.counting.specs.Counting.{Counting, State, here, summed}
+use Rattle.count_step.specs.declared.standing.Standing.{Standing}
+use Rattle.count_step.specs.declared.standing.Standing.TheVariants as standing
 use Rattle.count_step.specs.Inner.{Inner, Shut}
 use Rattle.counting.specs.StateWords.{encode_state}
 
@@ -43,11 +45,11 @@ pub data IsLoop : Block → State → Type 0 where
 pub data IsEnd : Block → State → Type 0 where
   is_end : IsEnd empty (here empty)
 
--- one of these, of the kind k: no block that can be opened
-pub data IsFlat (k : ℕ) : Block → State → Type 0 where
-  flat_assign : (x : ℕ) (e : Expr) (r : Block) → k ≡ 2 → IsFlat k (assign x e r) (here (assign x e r))
-  flat_loop : (x : ℕ) (m : Bound) (q r : Block) → k ≡ 3 → IsFlat k (loop x m q r) (here (loop x m q r))
-  flat_end : k ≡ 0 → IsFlat k empty (here empty)
+-- one of these, which is the k: no block that can be opened
+pub data IsFlat (k : Standing) : Block → State → Type 0 where
+  flat_assign : (x : ℕ) (e : Expr) (r : Block) → k ≡ standing.Assignment → IsFlat k (assign x e r) (here (assign x e r))
+  flat_loop : (x : ℕ) (m : Bound) (q r : Block) → k ≡ standing.Loop → IsFlat k (loop x m q r) (here (loop x m q r))
+  flat_end : k ≡ standing.End → IsFlat k empty (here empty)
 
 -- nothing is open in it
 pub data IsHere : Block → State → Type 0 where

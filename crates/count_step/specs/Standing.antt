@@ -6,16 +6,20 @@ use Rattle.counting.specs.CountStep.{step_state}
 use Rattle.counting.specs.Counting.{State, here}
 use Rattle.counting.specs.Entries.{Entry, within}
 use Rattle.counting.specs.Frames.{inner_at, inner_block}
+use Rattle.count_step.specs.declared.standing.Standing.{Standing}
+use Rattle.count_step.specs.declared.standing.Standing.TheVariants as standing
+use Rattle.count_step.specs.declared.standing.Way.{Way}
+use Rattle.count_step.specs.declared.standing.Way.TheVariants.{Here, Shut, Waits}
 use Rattle.count_step.specs.Inner.{Holds, Inner}
 use Rattle.count_step.specs.Makes.{Goes, Makes, over_expr}
 use Rattle.count_step.specs.Words.{shut_words}
 
--- The kind of what stands first: a block 1, an assignment 2, a loop 3; 0 where nothing is left.
-unfoldable pub kind_of : Block → ℕ
-kind_of empty = 0
-kind_of (assign x e r) = 2
-kind_of (loop x n q r) = 3
-kind_of (nest q r) = 1
+-- What stands first: a block, an assignment, a loop; the end where nothing is left.
+unfoldable pub kind_of : Block → Standing
+kind_of empty = standing.End
+kind_of (assign x e r) = standing.Assignment
+kind_of (loop x n q r) = standing.Loop
+kind_of (nest q r) = standing.Block
 
 -- Where the innermost block ends.
 unfoldable pub inner_end : List Entry → Block → ℕ
@@ -36,12 +40,12 @@ HereIn start used n buf words = (P : Block) × (es : List Entry) × (i : ℕ) ×
 abbrev pub SomeState : ℕ → ℕ → ℕ → List ℕ → List ℕ → ℕ → Type 0
 SomeState start used n buf words count = (P : Block) × (s : State) × Holds start used n P s buf words count
 
--- The way p that the next step goes, told by the words: 4 of a shut loop, 5 of a sum that waits, else the kind of what stands there.
-pub data Way (start used n : ℕ) (buf words : List ℕ) (p : ℕ) : Type 0 where
-  way_shut : shut_words words n ≡ true → p ≡ 4 → Way start used n buf words p
-  way_sum : shut_words words n ≡ false → get_or words 1 0 ≡ 1 → p ≡ 5 → Way start used n buf words p
+-- The way p that the next step goes, told by the words: that of a shut loop, of a sum that waits, else of what stands there.
+pub data IsWay (start used n : ℕ) (buf words : List ℕ) (p : Way) : Type 0 where
+  way_shut : shut_words words n ≡ true → p ≡ Shut → IsWay start used n buf words p
+  way_sum : shut_words words n ≡ false → get_or words 1 0 ≡ 1 → p ≡ Waits → IsWay start used n buf words p
   way_here : shut_words words n ≡ false → (get_or words 1 0 ≡ 1 → ⊥)
-      → ((P : Block) (es : List Entry) (i : ℕ) (r : Block) (count : ℕ) → Inner start used n P es i r (here r) buf words count → p ≡ kind_of r) → Way start used n buf words p
+      → ((P : Block) (es : List Entry) (i : ℕ) (r : Block) (count : ℕ) → Inner start used n P es i r (here r) buf words count → p ≡ Here (kind_of r)) → IsWay start used n buf words p
 
 -- From the state within es, of which r is left, the words now hold one that steps as it does, n being open in it.
 pub record Opened (start used n : ℕ) (P : Block) (es : List Entry) (r : Block) (buf words : List ℕ) (count : ℕ) : Type 0 where

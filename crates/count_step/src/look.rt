@@ -1,5 +1,5 @@
 // What the next step comes to, looked up before a word is written.
-ghost use Rattle.std.specs.Prelude.{◌≡◌, length};
+ghost use Rattle.std.specs.Prelude.{◌≡◌, ◌+◌, length};
 ghost use Rattle.rules.specs.Scope.{BlockWithin};
 ghost use Rattle.rules.specs.Store.{up_to};
 ghost use Rattle.rules.specs.Syntax.{Block};
@@ -9,58 +9,50 @@ ghost use Rattle.run.specs.Represents.{as_outcome};
 ghost use Rattle.counting.specs.Counting.{State};
 ghost use Rattle.count_step.specs.Inner.{Holds};
 ghost use Rattle.count_step.specs.Makes.{reads_as};
-ghost use Rattle.count_step.specs.Standing.{SomeState, Way, over_first};
+ghost use Rattle.count_step.specs.Standing.{IsWay, SomeState, over_first};
 
-use crate::standing::{SHUT, WAITS};
-use record::kind::{ASSIGNMENT, PLUS_ONE};
+use crate::standing::{Standing, Way};
+use record::kind::Kind;
 use run::Outcome;
-use state_words::place;
+use run::value::value_of;
+use state_words::program::Program;
+use state_words::{WORDS, place};
 
-// Whether the command at p is a plus one of the largest value.
-fn over_at(buf: &[u8], p: usize, store: &[u32], largest: u32) -> bool
-    requires { (b : Block) × (Spot b × (BlockAt buf.now p b × BlockWithin (length store.now) b)) }
-    ensures { (b : Block) → Spot b → BlockAt buf.now p b → BlockWithin (length store.now) b → result ≡ over_first (up_to largest) b store.now }
+// Whether the command at the place i is a plus one of the largest value.
+fn over_at(program: Program, i: usize, store: &[u32]) -> bool
+    requires { (b : Block) × (Spot b × (BlockAt program.bytes.now (program.start + i) b × BlockWithin (length store.now) b)) }
+    ensures { (b : Block) → Spot b → BlockAt program.entry.bytes.now (program.entry.start + i) b → BlockWithin (length store.now) b → result ≡ over_first (up_to program.entry.largest) b store.now }
 {
-    if buffer::get_u16(buf, p + 2) != ASSIGNMENT {
-        return false;
+    match program.record_at(i) {
+        Kind::Assignment => match program.kind_at(i) {
+            Kind::PlusOne => program.largest <= value_of(store, program.number_at(i)),
+            _ => false,
+        },
+        _ => false,
     }
-    if buffer::get_u16(buf, p + 10) != PLUS_ONE {
-        return false;
-    }
-    largest <= run::value::value_of(store, buffer::get_u32(buf, p + 12))
 }
 
 // The outcome that the state reads, n being open in it, whose next step goes that way. Spent says that a step can be made; the
 // budget has not been looked at. Blocks that stand first are looked into, not opened: a step that is over leaves them as they are.
-pub fn look(
-    buf: &[u8],
-    used: usize,
-    words: &[u32],
-    n: usize,
-    store: &[u32],
-    start: usize,
-    largest: u32,
-    way: usize,
-) -> Outcome
-    requires { SomeState start used n buf.now words.now (length store.now) × Way start used n buf.now words.now way }
-    ensures { (P : Block) (s : State) → Holds start used n P s buf.now words.now (length store.now) → as_outcome result ≡ reads_as (up_to largest) s store.now }
+pub fn look(program: Program, words: &[u32; WORDS], n: usize, store: &[u32], way: Way) -> Outcome
+    requires { SomeState program.start program.used n program.bytes.now words.now (length store.now) × IsWay program.start program.used n program.bytes.now words.now way }
+    ensures { (P : Block) (s : State) → Holds program.entry.start program.entry.used n P s program.entry.bytes.now words.now (length store.now) → as_outcome result ≡ reads_as (up_to program.entry.largest) s store.now }
 {
-    if way == SHUT {
+    let Way::Here(here) = way else {
         return Outcome::Spent;
+    };
+    if let Standing::End = here {
+        return if n == 0 {
+            Outcome::Finished
+        } else {
+            Outcome::Spent
+        };
     }
-    if way == WAITS {
-        return Outcome::Spent;
+    let i = place(words, n);
+    let levels = command::open_levels(program.bytes, program.start + i);
+    if over_at(program, i + 4 * levels, store) {
+        Outcome::Over
+    } else {
+        Outcome::Spent
     }
-    if way == 0 {
-        if n == 0 {
-            return Outcome::Finished;
-        }
-        return Outcome::Spent;
-    }
-    let first = start + place(words, n);
-    let at = first + 4 * command::open_levels(buf, first);
-    if over_at(buf, at, store, largest) {
-        return Outcome::Over;
-    }
-    Outcome::Spent
 }

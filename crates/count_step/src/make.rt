@@ -1,56 +1,53 @@
 // A step made.
 ghost use Rattle.count_step.specs.Makes.{IsFlat, MakesAs, StandsOn};
-ghost use Rattle.count_step.specs.Standing.{MakesStep, SomeGoing, Way};
+ghost use Rattle.count_step.specs.Standing.{IsWay, MakesStep, SomeGoing};
 
-use crate::standing::{SHUT, WAITS, open_at};
+use crate::standing::{Standing, Way, open_blocks};
 use crate::ways::{step_assign, step_close, step_enter, step_shut, step_sum};
-use record::kind::ASSIGNMENT;
-use state_words::place;
+use state_words::WORDS;
+use state_words::program::Program;
 
-// The step where no block can be opened any more, of the kind that stands there: an end, an assignment, or a loop.
+// The step where no block can be opened any more, by what stands there: an end, an assignment, or a loop.
 pub fn step_here(
-    buf: &[u8],
-    start: usize,
-    words: &mut [u32],
+    program: Program,
+    words: &mut [u32; WORDS],
     n: usize,
     store: &mut [u32],
-    kind: usize,
+    here: Standing,
 ) -> usize
-    requires { StandsOn start n (IsFlat kind) buf.now words.old store.old }
-    ensures { MakesAs start n (IsFlat kind) buf.now words.old store.old words.new store.new result }
+    requires { StandsOn program.start n (IsFlat here) program.bytes.now words.old store.old }
+    ensures { MakesAs program.entry.start n (IsFlat here) program.entry.bytes.now words.old store.old words.new store.new result }
 {
-    if kind == 0 {
-        return step_close(buf, start, words, n);
+    match here {
+        Standing::End => step_close(program, words, n),
+        Standing::Assignment => {
+            step_assign(program, words, n, store);
+            n
+        }
+        _ => step_enter(program, words, n, store),
     }
-    let i = place(words, n);
-    if kind == ASSIGNMENT {
-        step_assign(buf, start, words, n, store, i);
-        return n;
-    }
-    step_enter(buf, start, words, n, store, i)
 }
 
 // The next step of the state that the words hold, which has one and goes that way. Answers how many are open in the state after.
 pub fn make(
-    buf: &[u8],
-    used: usize,
-    words: &mut [u32],
+    program: Program,
+    words: &mut [u32; WORDS],
     n: usize,
     store: &mut [u32],
-    start: usize,
-    way: usize,
+    way: Way,
 ) -> usize
-    requires { SomeGoing start used n buf.now words.old store.old × Way start used n buf.now words.old way }
-    ensures { MakesStep start used n buf.now words.old store.old words.new store.new result }
+    requires { SomeGoing program.start program.used n program.bytes.now words.old store.old × IsWay program.start program.used n program.bytes.now words.old way }
+    ensures { MakesStep program.entry.start program.entry.used n program.entry.bytes.now words.old store.old words.new store.new result }
 {
-    if way == SHUT {
-        return step_shut(buf, start, words, n, store);
+    match way {
+        Way::Shut => step_shut(program, words, n, store),
+        Way::Waits => {
+            step_sum(program, words, n, store);
+            n
+        }
+        Way::Here(first) => {
+            let (many, here) = open_blocks(program, words, n, first);
+            step_here(program, words, many, store, here)
+        }
     }
-    if way == WAITS {
-        let i = place(words, n);
-        step_sum(buf, start, words, n, store, i);
-        return n;
-    }
-    let at = open_at(buf, used, words, n, start, way);
-    step_here(buf, start, words, at.many, store, at.kind)
 }

@@ -4,92 +4,92 @@ ghost use Rattle.rules.specs.Syntax.{Block};
 ghost use Rattle.counting.specs.Counting.{here};
 ghost use Rattle.counting.specs.Entries.{Entry};
 ghost use Rattle.count_step.specs.Inner.{Inner};
-ghost use Rattle.count_step.specs.Standing.{HereIn, Opened, SomeState, Way, inner_end, kind_of};
+ghost use Rattle.count_step.specs.Standing.{HereIn, IsWay, Opened, SomeState, inner_end, kind_of};
+ghost use Rattle.count_step.specs.declared.standing.Standing.TheVariants as standing;
 
 use crate::turns::is_shut;
-use record::kind::BLOCK;
-use state_words::{place, push, word};
+use record::kind::Kind;
+use state_words::program::Program;
+use state_words::{EntryWords, WORDS, entry, place, push};
+
+// What stands at a place: the end of the block that the place is in, or a command.
+#[derive(Clone, Copy)]
+pub enum Standing {
+    End,
+    Block,
+    Assignment,
+    Loop,
+}
+
+// The way that a step goes: a shut loop's, a sum's that waits, or that of what stands at the innermost place.
+#[derive(Clone, Copy)]
+pub enum Way {
+    Shut,
+    Waits,
+    Here(Standing),
+}
 
 // Where the innermost block ends: where the record of its entry does, or the program.
-pub fn inner_end(buf: &[u8], used: usize, words: &[u32], n: usize, start: usize) -> usize
-    requires { HereIn start used n buf.now words.now }
-    ensures { (P : Block) (es : List Entry) (i : ℕ) (r : Block) (count : ℕ) → Inner start used n P es i r (here r) buf.now words.now count → result ≡ inner_end es P }
+pub fn inner_end(program: Program, words: &[u32; WORDS], n: usize) -> usize
+    requires { HereIn program.start program.used n program.bytes.now words.now }
+    ensures { (P : Block) (es : List Entry) (i : ℕ) (r : Block) (count : ℕ) → Inner program.entry.start program.entry.used n P es i r (here r) program.entry.bytes.now words.now count → result ≡ inner_end es P }
 {
     if n == 0 {
-        return used - start;
+        return program.used - program.start;
     }
-    let at = word(words, 3 + 6 * (n - 1) + 1);
-    at + buffer::get_u16(buf, start + at)
+    let at = entry(words, n - 1).at as usize;
+    at + program.size_at(at)
 }
 
-// The kind of what stands there, 0 at the end of the block.
-pub fn standing(buf: &[u8], used: usize, words: &[u32], n: usize, start: usize) -> usize
-    requires { HereIn start used n buf.now words.now }
-    ensures { (P : Block) (es : List Entry) (i : ℕ) (r : Block) (count : ℕ) → Inner start used n P es i r (here r) buf.now words.now count → result ≡ kind_of r }
+// What stands there.
+pub fn innermost(program: Program, words: &[u32; WORDS], n: usize) -> Standing
+    requires { HereIn program.start program.used n program.bytes.now words.now }
+    ensures { (P : Block) (es : List Entry) (i : ℕ) (r : Block) (count : ℕ) → Inner program.entry.start program.entry.used n P es i r (here r) program.entry.bytes.now words.now count → result ≡ kind_of r }
 {
     let i = place(words, n);
-    if i == inner_end(buf, used, words, n, start) {
-        return 0;
+    if i == inner_end(program, words, n) {
+        return Standing::End;
     }
-    buffer::get_u16(buf, start + i + 2)
+    match program.record_at(i) {
+        Kind::Block => Standing::Block,
+        Kind::Assignment => Standing::Assignment,
+        _ => Standing::Loop,
+    }
 }
 
-// The ways of a step at no place, beside the kinds of what stands at one.
-pub const SHUT: usize = 4;
-
-pub const WAITS: usize = 5;
-
-// The way that the next step goes: a shut loop's, a sum's that waits, or that of what stands there, by its kind.
-pub fn way_of(buf: &[u8], used: usize, words: &[u32], n: usize, start: usize) -> usize
-    requires { (count : ℕ) × SomeState start used n buf.now words.now count }
-    ensures { Way start used n buf.now words.now result }
+// The way that the next step goes.
+pub fn way_of(program: Program, words: &[u32; WORDS], n: usize) -> Way
+    requires { (count : ℕ) × SomeState program.start program.used n program.bytes.now words.now count }
+    ensures { IsWay program.entry.start program.entry.used n program.entry.bytes.now words.now result }
 {
+    // Kept: that a sum waits is a word, as C lends it; `IsWay` (specs/Standing.antt) says that it does where the word is 1.
     if is_shut(words, n) {
-        return SHUT;
+        Way::Shut
+    } else if words[1] == 1 {
+        Way::Waits
+    } else {
+        Way::Here(innermost(program, words, n))
     }
-    if word(words, 1) == 1 {
-        return WAITS;
-    }
-    standing(buf, used, words, n, start)
 }
 
-// The blocks that stand there one in the other are opened, which is no step. Answers how many are open then.
-pub fn open_blocks(buf: &[u8], used: usize, words: &mut [u32], n: usize, start: usize) -> usize
-    requires { HereIn start used n buf.now words.old }
-    ensures { (P : Block) (es : List Entry) (i : ℕ) (r : Block) (count : ℕ) → Inner start used n P es i r (here r) buf.now words.old count → ((o : Opened start used result P es r buf.now words.new count) × (kind_of o.left ≡ 1 → ⊥)) }
+// The blocks that stand there one in the other are opened, which is no step; where no block stands nothing is done. Answers how
+// many are open then, and what stands there.
+pub fn open_blocks(
+    program: Program,
+    words: &mut [u32; WORDS],
+    n: usize,
+    first: Standing,
+) -> (usize, Standing)
+    requires { (P : Block) × (es : List Entry) × (i : ℕ) × (r : Block) × (count : ℕ) × Inner program.start program.used n P es i r (here r) program.bytes.now words.old count × (first ≡ kind_of r) }
+    ensures { (P : Block) (es : List Entry) (i : ℕ) (r : Block) (count : ℕ) → Inner program.entry.start program.entry.used n P es i r (here r) program.entry.bytes.now words.old count → first ≡ kind_of r → ((o : Opened program.entry.start program.entry.used result.0 P es r program.entry.bytes.now words.new count) × (result.1 ≡ kind_of o.left) × (result.1 ≡ standing.Block → ⊥)) }
 {
     let mut many = n;
-    while standing(buf, used, words, many, start) == BLOCK {
-        let i = place(words, many);
-        push(words, many, 1, i as u32, 0, 0, 0, (i + 4) as u32);
+    let mut inside = first;
+    while let Standing::Block = inside {
+        let i = place(words, many) as u32;
+        push(words, many, EntryWords::block(i, i + 4));
         many += 1;
+        inside = innermost(program, words, many);
     }
-    many
-}
-
-// How many are open, and the kind of what stands there.
-#[derive(Clone, Copy)]
-pub struct Innermost {
-    pub many: usize,
-    pub kind: usize,
-}
-
-// The same by the kind that stands there: where it is no block's nothing is done.
-pub fn open_at(
-    buf: &[u8],
-    used: usize,
-    words: &mut [u32],
-    n: usize,
-    start: usize,
-    kind: usize,
-) -> Innermost
-    requires { HereIn start used n buf.now words.old }
-    ensures { (P : Block) (es : List Entry) (i : ℕ) (r : Block) (count : ℕ) → Inner start used n P es i r (here r) buf.now words.old count → kind ≡ kind_of r → ((o : Opened start used result.many P es r buf.now words.new count) × (result.kind ≡ kind_of o.left) × (result.kind ≡ 1 → ⊥)) }
-{
-    if kind != BLOCK {
-        return Innermost { many: n, kind };
-    }
-    let many = open_blocks(buf, used, words, n, start);
-    let inside = standing(buf, used, words, many, start);
-    Innermost { many, kind: inside }
+    (many, inside)
 }

@@ -1,12 +1,11 @@
 -- One law for each way out of the check: of the program's record a row from 1 to 5, 12, 15 or none; behind them 6, and by 13 and 16.
 use Prim.Native.Nat.{◌+◌, ◌≤◌, ℕ}
 use mathlib.Core.Path.{ap, refl, sym, ◌∙◌, ◌≡◌}
-use mathlib.Core.Logic.{inl, inr, ◌⊎◌}
+use mathlib.Core.Logic.{◌⊎◌}
 use mathlib.Core.Bool.{Bool, false, not, true}
 use mathlib.Core.List.{◌++◌, List, [], ◌∷◌}
 use mathlib.Core.Option.{some}
-use borrow.Author.Tests.{eq-eqb, eqb-true, not-false}
-use lib.Dec.{eqb, ltb}
+use lib.Dec.{ltb}
 use lib.ListN.{length}
 use native.Mathlib.Omega.{arith}
 use Rattle.buffer.specs.LittleEndian.{Bytes}
@@ -18,13 +17,12 @@ use Rattle.record.specs.Program.{block_size}
 use Rattle.record.specs.Rows.{NoRow, Row, bad_buffer, bad_store, block_above, block_of, first_row, header_of, program_rows, row}
 use Rattle.record.proofs.CheckedRowLaws.{five-accepts, five-refuses}
 use Rattle.record.proofs.HeldLaws.{good-buffer, store-good, values-read}
-use Rattle.record.proofs.HoldingLaws.{BlockHeld, block-as-read, block-is, block-whole, passes-block, passes-program, program-as-read, program-block, program-header, program-k, program-whole}
+use Rattle.record.proofs.HoldingLaws.{BlockHeld, block-as-read, block-is, block-whole, passes-block, passes-program, program-as-read, program-block, program-header, program-k}
 use Rattle.record.proofs.RowLaws.{first-applies, first-before, first-behind, first-none, first-skips, none_both, none_first, none-split}
 use Rattle.record.proofs.RowMeaningLaws.{rows-mean}
 use Rattle.rules.specs.Literals.{small_values}
 use Rattle.rules.specs.Store.{up_to}
 use Rattle.rules.specs.Syntax.{Block}
-use Rattle.rules.proofs.Tests.{true-false}
 use Rattle.place.specs.ProgramView.{BlockAt}
 use Rattle.place.proofs.WholeLaws.{commands-at, commands-used, program-at, program-used}
 use Rattle.counting.specs.CountingCall.{bad_state, counting_rows, lent_rows, state_above, too_deep}
@@ -98,14 +96,6 @@ module _ (buf : List ℕ) (used n k : ℕ) (checked : check_program buf used ≡
       pub gives-number : deep ≡ false → n ≡ first_row (record_rows buf used)
       gives-number f = sym (first-behind five behind passed.0 ∙ first-skips 12 (too_deep buf used) _ (deep-as ∙ f) ∙ passed.1)
 
--- ROWS 1 TO 5, by the number
-
-pub early-none : (n : ℕ) → n ≡ 0 → (false ≡ true → (n ≡ 0 → ⊥) × (n ≡ 15 → ⊥)) × (false ≡ false → (n ≡ 0) ⊎ (n ≡ 15))
-early-none n z = ((λ e. true-false (sym e)), (λ e. inl z))
-
-pub early-by : (n : ℕ) → (n ≡ 0 → ⊥) → (not (eqb n 15) ≡ true → (n ≡ 0 → ⊥) × (n ≡ 15 → ⊥)) × (not (eqb n 15) ≡ false → (n ≡ 0) ⊎ (n ≡ 15))
-early-by n f = ((λ e. (f, (λ z. true-false (sym e ∙ ap not (eq-eqb n 15 z))))), (λ e. inr (eqb-true n 15 (not-false (eqb n 15) e))))
-
 -- ROWS 13 AND 16, by the two tests
 
 module _ (wrong above : Bool) where
@@ -177,9 +167,6 @@ module _ (buf : List ℕ) (used : ℕ) (words store : List ℕ) (n : ℕ) (first
     program =
         let q = none-split before (row 12 (too_deep buf used) ∷ row 15 (block_above buf used) ∷ []) none in
         passes-program buf used bytes (none_both before (row 15 (block_above buf used) ∷ []) q.0 q.1.1)
-
-    pub program-read : contents_at (header_in buf) ≤ length buf
-    program-read = program-whole program.1
 
     pub lent-to : (h : Header) → h ≡ header_in buf → ((P : Block) × ProgramIn h P buf used) × (length buf ≤ 16384)
     lent-to h e = ((program.0, program-as-read program.1 h e), (good-buffer buf used none.0).low)

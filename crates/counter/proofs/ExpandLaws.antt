@@ -22,7 +22,7 @@ use Rattle.place.specs.Heads.{record_head}
 use Rattle.place.specs.Whole.{header}
 use Rattle.place.proofs.HeadsLaws.{length-record_head}
 use Rattle.place.proofs.WholeLaws.{encode_program-header, length-header, program-at, program-used}
-use Rattle.term.specs.Answer.{as_wrote, refused_with, wrote_bytes}
+use Rattle.term.proofs.AnsweredLaws.{refusal}
 use Rattle.counting.specs.Counting.{State, expand}
 use Rattle.counting.specs.CountingCall.{counting_rows, expand_call, expand_rows, expanded, state_rows}
 use Rattle.counting.specs.CountingMeaning.{Passes}
@@ -46,15 +46,15 @@ room-behind room start size h = go (leb (start + size) room) refl
 -- WHERE NOTHING IS WRITTEN
 
 module _ (buf : List ℕ) (used : ℕ) (words store out : List ℕ) where
-  refuses : (n : ℕ) → first_row (expand_rows buf used words store out) ≡ n → (n ≡ 0 → ⊥) → as_wrote (refused_with n) out ≡ expand_call buf used words store out
+  refuses : (n : ℕ) → first_row (expand_rows buf used words store out) ≡ n → (n ≡ 0 → ⊥) → refusal n out ≡ expand_call buf used words store out
   refuses n e h =
       sym (expand-refused buf used words store out (λ z. h (sym e ∙ z)) ∙ ap (λ (m : ℕ). record { number = m; used = 0; written = out }) e)
 
-  pub gives_one : too_long out ≡ true → as_wrote (refused_with 1) out ≡ expand_call buf used words store out
+  pub gives_one : too_long out ≡ true → refusal 1 out ≡ expand_call buf used words store out
   gives_one l = refuses 1 (first-applies 1 (bad_buffer buf used || too_long out) _ (or-true (bad_buffer buf used) (too_long out) l)) (λ z. omega (arith, z))
 
   -- the rows of the check come first
-  pub gives-number : too_long out ≡ false → (n : ℕ) → n ≡ first_row (counting_rows buf used words store) → (n ≡ 0 → ⊥) → as_wrote (refused_with n) out ≡ expand_call buf used words store out
+  pub gives-number : too_long out ≡ false → (n : ℕ) → n ≡ first_row (counting_rows buf used words store) → (n ≡ 0 → ⊥) → refusal n out ≡ expand_call buf used words store out
   gives-number l n e h =
       refuses n
       (ap (λ (b : Bool). first_row (row 1 b ∷ program_rows buf used (state_rows buf used words store (row 10 (too_short out (expanded buf used words)) ∷ [])))) (or_right (bad_buffer buf used) (too_long out) l)
@@ -81,7 +81,7 @@ module _ {h : Header} {P : Block} {buf : List ℕ} {used : ℕ} {words store : L
   total-is start size e f = omega (arith, length-encode_program h (expand s), size-expand s)
 
   module _ (out : List ℕ) (lo : length out ≤ 16384) (start size : ℕ) (e : start ≡ contents_at h + 4) (f : size ≡ expand_size s) (fits : Bool) (g : fits ≡ leb (start + size) (length out)) where
-    pub gives-ten : fits ≡ false → as_wrote (refused_with 10) out ≡ expand_call buf used words store out
+    pub gives-ten : fits ≡ false → refusal 10 out ≡ expand_call buf used words store out
     gives-ten n =
         let longer : length out < length (encode_program h (expand s)) = omega (arith, total-is start size e f, leb-false (start + size) (length out) (sym g ∙ n)) in
         refuses buf used words store out 10 (sym (expand-number buf used words store out) ∙ (expand-ten a out lo).1 longer) (λ z. omega (arith, z))
@@ -89,7 +89,7 @@ module _ {h : Header} {P : Block} {buf : List ℕ} {used : ℕ} {words store : L
     pub roomy : fits ≡ true → start + size ≤ length out
     roomy t = leb-true (start + size) (length out) (sym g ∙ t)
 
-    pub gives-record : fits ≡ true → (after : List ℕ) → after ≡ padded (length out) (encode_program h (expand s)) → as_wrote (wrote_bytes (start + size)) after ≡ expand_call buf used words store out
+    pub gives-record : fits ≡ true → (after : List ℕ) → after ≡ padded (length out) (encode_program h (expand s)) → record { number = 0; used = start + size; written = after } ≡ expand_call buf used words store out
     gives-record t after w =
         let same = total-is start size e f in
         ap (λ (m : ℕ). record { number = 0; used = m; written = after }) same

@@ -8,12 +8,10 @@ use Rattle.buffer.specs.LittleEndian.{Bytes}
 use Rattle.record.specs.declared.Header.{Header}
 use Rattle.record.specs.Header.{contents_at, header_in}
 use Rattle.record.specs.Rows.{first_row, header_of}
-use Rattle.record.proofs.HoldingLaws.{program-whole}
 use Rattle.record.proofs.RowLaws.{first-none}
 use Rattle.rules.specs.Scope.{BlockWithin}
 use Rattle.rules.specs.Syntax.{Block}
 use Rattle.run.specs.declared.RunEnd.{RunEnd}
-use Rattle.run.specs.Represents.{as_run_answer}
 use Rattle.run.specs.RunAnswer.{refusal}
 use Rattle.place.proofs.WholeLaws.{program-at, program-used}
 use Rattle.counting.specs.Counting.{State}
@@ -29,18 +27,16 @@ use Rattle.count_run.specs.Gives.{Gives}
 
 module _ (buf : List ℕ) (used : ℕ) (words store : List ℕ) (n : ℕ) (first : n ≡ first_row (counting_rows buf used words store)) where
   -- a refusal is by the first row that applies, and nothing has changed
-  pub refuses : (budget : ℕ) → (n ≡ 0 → ⊥) → (r : RunEnd) → as_run_answer r ≡ refusal n → Gives r words store (run_counting buf used words store budget)
-  refuses budget h r answers =
+  pub refuses : (budget : ℕ) → (n ≡ 0 → ⊥)
+      → (refusal n ≡ (run_counting buf used words store budget).answer) × (words ≡ (run_counting buf used words store budget).words) × (store ≡ (run_counting buf used words store budget).store)
+  refuses budget h =
       let is : run_counting buf used words store budget ≡ record { answer = refusal n; words = words; store = store } =
       counting-refused buf used words store budget (λ z. h (first ∙ z)) ∙ ap (λ (m : ℕ). record { answer = refusal m; words = words; store = store }) (sym first) in
-      (answers ∙ ap (λ (c : CountingCall). c.answer) (sym is), ap (λ (c : CountingCall). c.words) (sym is), ap (λ (c : CountingCall). c.store) (sym is))
+      (ap (λ (c : CountingCall). c.answer) (sym is), ap (λ (c : CountingCall). c.words) (sym is), ap (λ (c : CountingCall). c.store) (sym is))
 
   module _ (z : n ≡ 0) (bytes : Bytes buf) where
     passed : (P : Block) × (s : State) × Passes (header_of buf used) P buf used words store s
     passed = rows_pass buf used words store bytes (first-none (counting_rows buf used words store) refl (sym first ∙ z))
-
-    pub accepts-whole : contents_at (header_in buf) ≤ length buf
-    accepts-whole = program-whole passed.2.program
 
     pub accepts : (h : Header) → h ≡ header_in buf → (P : Block) × (s : State) × Passes h P buf used words store s
     accepts h e = (passed.0, passed.1, passes-as-read passed.2 h e)

@@ -1,9 +1,10 @@
 // How a run of the counting stepper ended, as it crosses the C boundary: no record is left, so there is no used length.
 ghost use Rattle.std.specs.Prelude.{◌≡◌};
-ghost use Rattle.run.specs.Represents.{as_run_answer};
+ghost use Rattle.run.specs.Represents.{run_answer_of};
 ghost use Rattle.counter.specs.Represents.{in_numbers};
 
-use run::RunEnd;
+use record::refusal::Refusal;
+use run::{RunEnd, RunNumbers};
 
 #[repr(C)]
 #[derive(Clone, Copy)]
@@ -14,14 +15,16 @@ pub struct CountedNumbers {
     pub left: u32,
 }
 
-pub fn in_numbers(end: RunEnd) -> CountedNumbers
-    ensures { result ≡ in_numbers (as_run_answer end) }
-{
-    let numbers = run::in_numbers(end);
-    CountedNumbers {
-        number: numbers.number,
-        outcome: numbers.outcome,
-        steps: numbers.steps,
-        left: numbers.left,
+impl From<Result<RunEnd, Refusal>> for CountedNumbers {
+    ghost from_gives = { λ answer numbers. numbers ≡ in_numbers (run_answer_of answer) };
+
+    fn from(answer: Result<RunEnd, Refusal>) -> CountedNumbers {
+        let numbers = RunNumbers::from(answer);
+        CountedNumbers {
+            number: numbers.number,
+            outcome: numbers.outcome,
+            steps: numbers.steps,
+            left: numbers.left,
+        }
     }
 }

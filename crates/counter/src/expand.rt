@@ -3,7 +3,7 @@ ghost use Rattle.std.specs.Prelude.{◌≡◌, List, ℕ, ◌+◌, ◌≤◌, le
 ghost use Rattle.rules.specs.Syntax.{Block};
 ghost use Rattle.record.specs.Answers.{padded};
 ghost use Rattle.record.specs.Header.{encode_program};
-ghost use Rattle.term.specs.Answer.{as_wrote};
+ghost use Rattle.term.specs.Answer.{wrote_of};
 ghost use Rattle.counting.specs.Counting.{State, expand};
 ghost use Rattle.counting.specs.CountingCall.{expand_call};
 ghost use Rattle.counting.specs.CountingMeaning.{Passes};
@@ -12,10 +12,10 @@ use crate::check::check;
 use checker::too_long;
 use edit::{put_head, put_header};
 use expansion::{expansion_size, write_expansion};
-use record::kind::BLOCK;
-use record::refusal::{BAD_BUFFER, OUTPUT_TOO_SHORT};
+use record::kind::Kind;
+use record::refusal::Refusal;
 use record::{Header, Sort};
-use term::{Written, refused, wrote};
+use state_words::program::Program;
 
 // Whether `size` bytes behind `start` others fit. The size can be far above what any buffer holds.
 fn fits(room: usize, start: usize, size: u64) -> bool
@@ -41,8 +41,15 @@ fn write_record(
 {
     let contents = h.contents_at();
     put_header(out, Sort::Program, h, total);
-    put_head(out, contents, BLOCK, total - contents);
-    write_expansion(program, used, state, contents + 4, out, contents + 4);
+    put_head(out, contents, Kind::Block, total - contents);
+    let start = contents + 4;
+    let counted = Program {
+        bytes: program,
+        used,
+        start,
+        largest: h.largest(),
+    };
+    write_expansion(counted, state, out, start);
     let room = out.len();
     buffer::zero(out, total, room - total);
 }
@@ -54,18 +61,24 @@ fn expand_accepted(
     h: Header,
     state: &[u32; 189],
     out: &mut [u8],
-) -> Written
+) -> Result<u32, Refusal>
     requires { ((store : List ℕ) × (P : Block) × (s : State) × Passes h P program.now used state.now store s) × (length out.old ≤ 16384) }
-    ensures { (store : List ℕ) (P : Block) (s : State) → Passes h P program.now used state.now store s → as_wrote result out.new ≡ expand_call program.now used state.now store out.old }
+    ensures { (store : List ℕ) (P : Block) (s : State) → Passes h P program.now used state.now store s → wrote_of result out.new ≡ expand_call program.now used state.now store out.old }
 {
     let start = h.contents_at() + 4;
-    let size = expansion_size(program, used, state, start);
+    let counted = Program {
+        bytes: program,
+        used,
+        start,
+        largest: h.largest(),
+    };
+    let size = expansion_size(counted, state);
     if fits(out.len(), start, size) {
         let total = start + size as usize;
         write_record(program, used, h, state, out, total);
-        return wrote(total);
+        return Ok(total as u32);
     }
-    refused(OUTPUT_TOO_SHORT)
+    Err(Refusal::OutputTooShort)
 }
 
 // Row 1 looks at both buffers before row 2 looks at the program.
@@ -75,16 +88,12 @@ pub fn expand(
     state: &[u32; 189],
     store: &[u32],
     out: &mut [u8],
-) -> Written
-    ensures { as_wrote result out.new ≡ expand_call program.now used state.now store.now out.old }
+) -> Result<u32, Refusal>
+    ensures { wrote_of result out.new ≡ expand_call program.now used state.now store.now out.old }
 {
     if too_long(out.len()) {
-        return refused(BAD_BUFFER);
+        return Err(Refusal::BadBuffer);
     }
-    let number = check(program, used, state, store);
-    if number != 0 {
-        return refused(number);
-    }
-    let h = record::read_header(program);
+    let h = check(program, used, state, store)?;
     expand_accepted(program, used, h, state, out)
 }

@@ -11,13 +11,15 @@ ghost use Rattle.rules.specs.Syntax.{Block};
 ghost use Rattle.counting.specs.Counting.{State};
 ghost use Rattle.counting.specs.CountingCall.{counted_to, counts, run_counting};
 ghost use Rattle.counting.specs.CountingMeaning.{Passes};
-ghost use Rattle.run.specs.Represents.{as_run_answer};
+ghost use Rattle.run.specs.Represents.{run_answer_of};
 ghost use Rattle.count_run.specs.Gives.{Gives};
 
 use canonical::{make_canonical, open_count};
 use count_run::run_words;
 use record::Header;
+use record::refusal::Refusal;
 use run::RunEnd;
+use state_words::program::Program;
 
 // The run of what the rows let through. Words that a state does not hold are made 0 first, and every step leaves them so.
 fn run_accepted(
@@ -35,7 +37,13 @@ fn run_accepted(
     let largest = h.largest();
     make_canonical(state);
     let n = open_count(state);
-    run_words(program, used, state, n, store, start, largest, budget)
+    let counted = Program {
+        bytes: program,
+        used,
+        start,
+        largest,
+    };
+    run_words(counted, state, n, store, budget)
 }
 
 // The call: a refusal comes before anything is written. The words are lent, and a step changes one entry of them in place.
@@ -45,13 +53,9 @@ pub fn run_counting(
     state: &mut [u32; 189],
     store: &mut [u32],
     budget: u32,
-) -> RunEnd
-    ensures { (as_run_answer result ≡ (run_counting program.now used state.old store.old budget).answer) × (state.new ≡ (run_counting program.now used state.old store.old budget).words) × (store.new ≡ (run_counting program.now used state.old store.old budget).store) }
+) -> Result<RunEnd, Refusal>
+    ensures { (run_answer_of result ≡ (run_counting program.now used state.old store.old budget).answer) × (state.new ≡ (run_counting program.now used state.old store.old budget).words) × (store.new ≡ (run_counting program.now used state.old store.old budget).store) }
 {
-    let number = check::check(program, used, state, store);
-    if number != 0 {
-        return run::refuse(number);
-    }
-    let h = record::read_header(program);
-    run_accepted(program, used, h, state, store, budget)
+    let h = check::check(program, used, state, store)?;
+    Ok(run_accepted(program, used, h, state, store, budget))
 }

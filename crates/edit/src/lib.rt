@@ -9,18 +9,20 @@ ghost use Rattle.place.specs.Edit.{lead, leaf_bytes, removed, spread};
 ghost use Rattle.place.specs.Heads.{record_head, shifted};
 ghost use Rattle.place.specs.Whole.{header, relength_all};
 ghost use Rattle.record.specs.Header.{contents_at};
+ghost use Rattle.record.specs.Kind.{kind_number};
 
 use buffer::{get_u16, put_u16, put_u32, zero};
 use moves::{move_down, move_up};
+use record::kind::Kind;
 use record::{Header, Sort};
 
 // The first four bytes of a record of n bytes.
-pub fn put_head(buf: &mut [u8], at: usize, kind: usize, n: usize)
+pub fn put_head(buf: &mut [u8], at: usize, kind: Kind, n: usize)
     requires { at + 4 ≤ length buf.old }
-    ensures { buf.new ≡ put buf.old at (record_head kind n) }
+    ensures { buf.new ≡ put buf.old at (record_head (kind_number kind) n) }
 {
     put_u16(buf, at, n);
-    put_u16(buf, at + 2, kind);
+    put_u16(buf, at + 2, kind.number());
 }
 
 // What stands in front of the contents of a record of n bytes.
@@ -33,18 +35,18 @@ pub fn put_header(buf: &mut [u8], sort: Sort, h: Header, n: usize)
 }
 
 // A record that holds one number: an expression, a bound or an atom.
-pub fn put_leaf(buf: &mut [u8], at: usize, kind: usize, v: u32)
+pub fn put_leaf(buf: &mut [u8], at: usize, kind: Kind, v: u32)
     requires { at + 8 ≤ length buf.old }
-    ensures { buf.new ≡ put buf.old at (leaf_bytes kind v) }
+    ensures { buf.new ≡ put buf.old at (leaf_bytes (kind_number kind) v) }
 {
     put_head(buf, at, kind, 8);
     put_u32(buf, at + 4, v);
 }
 
 // What an assignment, a loop, a let-one of an atom and a rec begin with: a head, a variable, and a record of one number.
-pub fn put_lead(buf: &mut [u8], at: usize, kind: usize, n: usize, x: u32, leaf: usize, v: u32)
+pub fn put_lead(buf: &mut [u8], at: usize, kind: Kind, n: usize, x: u32, leaf: Kind, v: u32)
     requires { at + 16 ≤ length buf.old }
-    ensures { buf.new ≡ put buf.old at (lead kind n x leaf v) }
+    ensures { buf.new ≡ put buf.old at (lead (kind_number kind) n x (kind_number leaf) v) }
 {
     put_head(buf, at, kind, n);
     put_u32(buf, at + 4, x);
@@ -75,11 +77,7 @@ fn adjust(buf: &mut [u8], at: usize, up: usize, down: usize)
     ensures { buf.new ≡ put buf.old at (le 2 (shifted up down (val (part buf.old at 2)))) }
 {
     let n = get_u16(buf, at) + up;
-    if down <= n {
-        put_u16(buf, at, n - down);
-    } else {
-        put_u16(buf, at, 0);
-    }
+    put_u16(buf, at, n.saturating_sub(down));
 }
 
 // The header's length, and those of so many levels of the contents, which start at `start`.
@@ -88,9 +86,7 @@ pub fn relength(buf: &mut [u8], start: usize, count: usize, up: usize, down: usi
     ensures { buf.new ≡ relength_all (shifted up down) start count buf.old }
 {
     adjust(buf, 0, up, down);
-    let mut i = 0;
-    while i < count {
+    for i in 0..count {
         adjust(buf, start + 4 * i, up, down);
-        i += 1;
     }
 }

@@ -31,6 +31,10 @@ module _ (l ws : List ℕ) (start : ℕ) where
           → total + expand_size z.inner ≡ expand_size s → total + (4 + r) + expand_size o.inner ≡ expand_size s
       sizes f g h = omega arith
 
+-- the same numbers
+pub sizing-same : {l ws : List ℕ} {start : ℕ} {s : State} {total e p end : ℕ} (t f : ℕ) → t ≡ total → f ≡ e → Sizing l ws start s total e p end → Sizing l ws start s t f p end
+sizing-same t f et ef z = rw (et, ef) z
+
 -- what is innermost, where nothing is open in it
 pub shut-total : (l ws : List ℕ) (start e p end : ℕ) (s : State) (h : Shut l ws start e p end s) (n r f : ℕ) → n ≡ length_at l start p
     → r ≡ to_come (held_at ws e) * n + (end - (p + n)) → f ≡ first_size (get_or ws (e + 5) 0) (get_or ws (e + 4) 0) n → r + f ≡ expand_size s

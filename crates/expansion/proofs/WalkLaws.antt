@@ -4,7 +4,7 @@ use mathlib.Core.Path.{ap, ap₂, refl, subst, sym, ◌∙◌, ◌≡◌}
 use mathlib.Core.Bool.{Bool, false, true}
 use mathlib.Core.List.{◌++◌, List, [], ◌∷◌}
 use borrow.Author.Tests.{eqb-true, leb-true, ltb-false, ltb-true}
-use lib.Dec.{eqb, leb}
+use lib.Dec.{ltb, eqb, leb}
 use lib.ListN.{get_or-eq_default, get_or, length, length-append}
 use native.Mathlib.Omega.{arith}
 use Rattle.buffer.specs.LittleEndian.{val}
@@ -26,10 +26,12 @@ use Rattle.counting.proofs.BytesLaws.{inside-loop, inside-nest, rest-stands}
 use Rattle.counting.proofs.PlaceLaws.{rest-located}
 use Rattle.counting.proofs.ReadInversion.{check_inv, holding-inv, on_rest-inv, right-injective, shut-inv, wrong-inv}
 use Rattle.counting.proofs.SizeLaws.{length-expansion, size-expand}
-use Rattle.expansion.specs.Entry.{first_size, inside_of, opens, to_come}
+use Rattle.state_words.specs.declared.EntryWords.{EntryWords}
+use Rattle.state_words.specs.Entry.{entry_at}
+use Rattle.expansion.specs.Entry.{as_held, first_size, inside_of, opens, to_come}
 use Rattle.expansion.specs.Pieces.{around_bytes, first_bytes, rest_bytes, turns_bytes}
-use Rattle.expansion.specs.Walk.{Around, Ended, EntryAt, Given, Left, Opened, Shut, block_of, length_at, read_left}
-use Rattle.expansion.proofs.EntryLaws.{inside-first, inside-other, opens-first, opens-held, opens-other, to-come-first, to-come-other}
+use Rattle.expansion.specs.Walk.{Around, Ended, IsHeld, Given, Left, Opened, Shut, block_of, length_at, read_left}
+use Rattle.expansion.proofs.EntryLaws as entry
 use Rattle.expansion.proofs.PiecesLaws.{length-around, length-first}
 use Rattle.expansion.proofs.TurnsLaws.{LoopParts, block-part, empty-bytes, loop-parts, nest-bytes, storing-bytes, summed-bytes, turns-bytes, unrolling-bytes}
 
@@ -39,6 +41,37 @@ read_at : (w v : ℕ) (hs : List Held) (b : Block) (a p : ℕ) → read_state w 
 unfolding read_state read_left
 read_at w v [] b a p = refl
 read_at w v (h ∷ hs) b a p = refl
+
+-- AN ENTRY THAT STANDS IN WORDS
+
+module _ (ws : List ℕ) (e : ℕ) where
+  opens-first : get_or ws e 0 ≡ 1 → true ≡ opens (held_at ws e)
+  unfolding held_at
+  opens-first = entry.opens-first (held_at ws e)
+
+  opens-other : (get_or ws e 0 ≡ 0 → ⊥) → (get_or ws e 0 ≡ 1 → ⊥) → ltb 1 (get_or ws (e + 5) 0) ≡ opens (held_at ws e)
+  unfolding held_at
+  opens-other = entry.opens-other (held_at ws e)
+
+  opens-held : opens (held_at ws e) ≡ true → 1 ≤ get_or ws e 0
+  unfolding held_at
+  opens-held = entry.opens-held (held_at ws e)
+
+  inside-first : get_or ws e 0 ≡ 1 → get_or ws (e + 5) 0 ≡ inside_of (held_at ws e)
+  unfolding held_at
+  inside-first = entry.inside-first (held_at ws e)
+
+  inside-other : (get_or ws e 0 ≡ 1 → ⊥) → get_or ws (e + 5) 0 - 2 ≡ inside_of (held_at ws e)
+  unfolding held_at
+  inside-other = entry.inside-other (held_at ws e)
+
+  to-come-first : get_or ws e 0 ≡ 1 → 0 ≡ to_come (held_at ws e)
+  unfolding held_at
+  to-come-first = entry.to-come-first (held_at ws e)
+
+  to-come-other : (get_or ws e 0 ≡ 1 → ⊥) → get_or ws (e + 2) 0 - get_or ws (e + 3) 0 ≡ to_come (held_at ws e)
+  unfolding held_at
+  to-come-other = entry.to-come-other (held_at ws e)
 
 module _ (l ws : List ℕ) (start : ℕ) where
   left-of : (count e : ℕ) (b : Block) (a p end : ℕ) (s : State) → e + 6 * count ≡ 189 → BlockAt l (start + a) b → a + block_size b ≡ end
@@ -344,6 +377,19 @@ module _ (l ws : List ℕ) (start e p end : ℕ) (s : State) (all : length ws �
       by n w (loop x b q r) h f g = shut-loop l ws start e p end n x b q r s w h f op g
       by n w (nest q r) h f g = shut-nest l ws start e p end n (is_last (held_from ws (e + 6) n)) q r s op g
 
+  -- either way it stands around something
+  pub held-around : 1 ≤ get_or ws e 0 → (m : List ℕ) × Around l ws start e p end s m
+  held-around some = by (opens (held_at ws e)) refl
+    where
+      by : (b : Bool) → opens (held_at ws e) ≡ b → (m : List ℕ) × Around l ws start e p end s m
+      by true f = let o = opened f in (block_of o.inner, o.around)
+      by false f = (_, (shut f some).around)
+
+-- the entry behind i others, as it is read whole
+pub at-held : (w : EntryWords) (ws : List ℕ) (i : ℕ) → w ≡ entry_at ws i → as_held w ≡ held_at ws (3 + 6 * i)
+unfolding held_at
+at-held w ws i e = ap as_held e
+
 -- WHERE NOTHING MORE IS OPEN
 
 reads_end : (w v : ℕ) (p : ℕ) (r : Block) (s : State) (gs : List Held) → gs ≡ [] → read_left w v gs p r ≡ right s → read_here w v r ≡ right s
@@ -412,13 +458,10 @@ ended l ws start e p end s all t none =
     (reads_end (get_or ws 1 0) (get_or ws 2 0) p t.rest s (held_from ws e t.count) (held_none ws all t.count e none) t.reads) in
     record { order = omega (arith, t.ends); room = omega (arith, block_room t.stands, t.ends); enough = g.enough; size = g.size; bytes = g.bytes }
 
--- the words that a walk has behind it
-pub left-words : {l ws : List ℕ} {start e p end : ℕ} {s : State} → Left l ws start e p end s → e ≤ 189
-left-words t = omega (arith, t.words)
-
 -- what the code needs to know of an entry
-pub around-entry : {l ws : List ℕ} {start e p end : ℕ} {s : State} {m : List ℕ} → length ws ≡ 189 → Around l ws start e p end s m → EntryAt ws e
-around-entry all a = (all, a.words, a.what.0, a.what.1, a.counts)
+pub around-entry : {l ws : List ℕ} {start e p end : ℕ} {s : State} {m : List ℕ} → Around l ws start e p end s m → IsHeld (held_at ws e)
+unfolding held_at
+around-entry a = (a.what.0, a.what.1, a.counts)
 
 pub shut-size : (l ws : List ℕ) (start e p end : ℕ) (s : State) (h : Shut l ws start e p end s)
     → expand_size s ≡ to_come (held_at ws e) * length_at l start p + (end - (p + length_at l start p)) + first_size (get_or ws (e + 5) 0) (get_or ws (e + 4) 0) (length_at l start p)

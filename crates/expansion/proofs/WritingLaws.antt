@@ -15,11 +15,12 @@ use Rattle.place.proofs.EditLaws.{length-lead}
 use Rattle.place.proofs.HeadsLaws.{length-record_head}
 use Rattle.counting.specs.Counting.{State, expand}
 use Rattle.counting.specs.Size.{expand_size}
+use Rattle.counting.specs.Held.{Held}
 use Rattle.counting.specs.StateWords.{held_at}
 use Rattle.counting.proofs.SizeLaws.{length-expansion}
 use Rattle.expansion.specs.Entry.{inside_of, to_come}
 use Rattle.expansion.specs.Pieces.{around_bytes, first_bytes, led_bytes, rest_bytes, storing_bytes, turn_bytes, turns_bytes, unrolling_bytes}
-use Rattle.expansion.specs.Walk.{Given, Opened, Shut, block_of, length_at}
+use Rattle.expansion.specs.Walk.{Around, Given, IsHeld, Opened, Shut, block_of, length_at}
 use Rattle.expansion.specs.Writing.{Narrowed, Writing}
 use Rattle.expansion.proofs.PiecesLaws.{back-first, front-first, turns-none}
 use Rattle.expansion.proofs.EntryLaws.{to-come-first, to-come-other}
@@ -71,6 +72,12 @@ pub turn-led : (l : List ℕ) (at n v : ℕ) (o o₁ : List ℕ) (p : ℕ) → o
 unfolding turn_bytes
 turn-led l at n v o o₁ p e = e
 
+-- as many turns are left
+pub turns-left : (l : List ℕ) (at n c : ℕ) (m o₁ : List ℕ) (f i j : ℕ) {b : ℕ} {all : List ℕ} → i ≡ j → put o₁ f (turns_bytes l at n c m i) ≡ all → f + length (turns_bytes l at n c m i) ≡ b
+    → (put o₁ f (turns_bytes l at n c m j) ≡ all) × (f + length (turns_bytes l at n c m j) ≡ b)
+turns-left l at n c m o₁ f i j e g h =
+    (ap (λ (k : ℕ). put o₁ f (turns_bytes l at n c m k)) (sym e) ∙ g, ap (λ (k : ℕ). f + length (turns_bytes l at n c m k)) (sym e) ∙ h)
+
 -- no turn is left
 pub turns-done : (l : List ℕ) (at n c i : ℕ) (m o o₁ : List ℕ) (front f b : ℕ) (all : List ℕ) → i ≤ 0
     → (put o₁ f (turns_bytes l at n c m i) ≡ put o front all) × (f + length (turns_bytes l at n c m i) ≡ b) → b ≤ length o₁ → Narrowed o o₁ front all f b m
@@ -110,27 +117,27 @@ module _ (l : List ℕ) (at n behind c d : ℕ) (m : List ℕ) (inside : at + n 
         record { same = h.same ∙ ap (λ (j : ℕ). put o₁ front (turns_bytes l at n c m j)) e ∙ around-same; fills = h.fills; room = h.room }
 
 -- the last of the turns to come is below 2^32, as the top is
-pub turns-top : (ws : List ℕ) (e d : ℕ) → d ≡ to_come (held_at ws e) → (d ≡ 0 → ⊥) → 1 ≤ get_or ws e 0 → get_or ws e 0 ≤ 2 → (get_or ws e 0 ≡ 2 → get_or ws (e + 3) 0 ≤ get_or ws (e + 2) 0)
-    → get_or ws (e + 3) 0 + d ≡ get_or ws (e + 2) 0
-turns-top ws e d ed z low high counts = by (get_or ws e 0) refl
+pub turns-top : (h : Held) (d : ℕ) → d ≡ to_come h → (d ≡ 0 → ⊥) → IsHeld h → h.reached + d ≡ h.top
+turns-top h d ed z (low, high, counts) = by h.what refl
   where
-    by : (what : ℕ) → get_or ws e 0 ≡ what → get_or ws (e + 3) 0 + d ≡ get_or ws (e + 2) 0
-    by zero h = absurd (omega arith)
-    by (suc zero) h = absurd (z (ed ∙ sym (to-come-first ws e h)))
-    by (suc (suc what)) h =
-        let two : get_or ws e 0 ≡ 2 = omega arith in
-        omega (arith, to-come-other ws e (λ k. omega arith), counts two, ed)
+    by : (what : ℕ) → h.what ≡ what → h.reached + d ≡ h.top
+    by zero e = absurd (omega arith)
+    by (suc zero) e = absurd (z (ed ∙ sym (to-come-first h e)))
+    by (suc (suc what)) e =
+        let two : h.what ≡ 2 = omega arith in
+        omega (arith, to-come-other h (λ k. omega arith), counts two, ed)
 
 -- WHAT IS INNERMOST
 module _ (l ws : List ℕ) (start e p end : ℕ) (s : State) where
-  -- the bytes, by the record's length that the code reads
-  pub shut-bytes : (h : Shut l ws start e p end s) (n : ℕ) → n ≡ length_at l start p
-      → encode_block (expand s) ≡ around_bytes l (start + p) n (end - (p + n)) (get_or ws (e + 3) 0) (to_come (held_at ws e)) (first_bytes (get_or ws (e + 5) 0) (get_or ws (e + 4) 0) l (start + p) n (get_or ws (e + 3) 0))
-  shut-bytes h n en = rw en h.around.bytes
+  -- the bytes, by the numbers that the code reads: the record's length, the reached count and how many turns are to come
+  pub around-bytes : {m : List ℕ} → Around l ws start e p end s m → (n c d : ℕ) → n ≡ length_at l start p → c ≡ get_or ws (e + 3) 0 → d ≡ to_come (held_at ws e)
+      → encode_block (expand s) ≡ around_bytes l (start + p) n (end - (p + n)) c d m
+  around-bytes h n c d en ec ed = rw (en, ec, ed) h.bytes
 
-  pub opened-bytes : (h : Opened l ws start e p end s) (n : ℕ) → n ≡ length_at l start p
-      → encode_block (expand s) ≡ around_bytes l (start + p) n (end - (p + n)) (get_or ws (e + 3) 0) (to_come (held_at ws e)) (block_of h.inner)
-  opened-bytes h n en = rw en h.around.bytes
+  -- and of a loop within which nothing is open, its progress and whether it is running
+  pub shut-bytes : Shut l ws start e p end s → (n c d i f : ℕ) → n ≡ length_at l start p → c ≡ get_or ws (e + 3) 0 → d ≡ to_come (held_at ws e) → i ≡ get_or ws (e + 5) 0 → f ≡ get_or ws (e + 4) 0
+      → encode_block (expand s) ≡ around_bytes l (start + p) n (end - (p + n)) c d (first_bytes i f l (start + p) n c)
+  shut-bytes h n c d i f en ec ed ei ef = rw (en, ec, ed, ei, ef) h.around.bytes
 
 -- an expansion ends where its size says
 pub bytes-fill : (s : State) (all : List ℕ) (front back : ℕ) → encode_block (expand s) ≡ all → front + expand_size s ≡ back → front + length all ≡ back
@@ -146,12 +153,12 @@ module _ (l ws : List ℕ) (start : ℕ) where
       → Writing l ws start s o o front front b 3 p (used - start)
   writing_start used P s g o front b p eb ep = record { inner = s; left = rw ep (given-left l ws start used P s g); same = refl; fills = sym eb }
 
-  pub writing_step : (s : State) (o o₁ o₂ o₃ : List ℕ) (front f b e p end : ℕ) (w : Writing l ws start s o o₁ front f b e p end) (h : Opened l ws start e p end w.inner) (n f₂ b₂ q : ℕ)
-      → n ≡ length_at l start p
-      → Narrowed o₁ o₂ f (around_bytes l (start + p) n (end - (p + n)) (get_or ws (e + 3) 0) (to_come (held_at ws e)) (block_of h.inner)) f₂ b₂ (block_of h.inner)
+  pub writing_step : (s : State) (o o₁ o₂ o₃ : List ℕ) (front f b e p end : ℕ) (w : Writing l ws start s o o₁ front f b e p end) (h : Opened l ws start e p end w.inner) (n c d f₂ b₂ q : ℕ)
+      → n ≡ length_at l start p → c ≡ get_or ws (e + 3) 0 → d ≡ to_come (held_at ws e)
+      → Narrowed o₁ o₂ f (around_bytes l (start + p) n (end - (p + n)) c d (block_of h.inner)) f₂ b₂ (block_of h.inner)
       → o₃ ≡ put o₂ f₂ (record_head 1 (b₂ - f₂)) → q ≡ inside_of (held_at ws e)
       → Writing l ws start s o o₃ front (f₂ + 4) b₂ (e + 6) q (p + n)
-  writing_step s o o₁ o₂ o₃ front f b e p end w h n f₂ b₂ q en g e₃ eq =
+  writing_step s o o₁ o₂ o₃ front f b e p end w h n c d f₂ b₂ q en ec ed g e₃ eq =
       let t : State = h.inner in
       let k : b₂ - f₂ ≡ 4 + expand_size t = omega (arith, g.fills, length-block_of t) in
       record {
@@ -159,6 +166,9 @@ module _ (l ws : List ℕ) (start : ℕ) where
         left = rw (eq, en) h.left;
         same = front-first o₂ o₃ (record_head 1 (b₂ - f₂)) (encode_block (expand t)) f₂ (f₂ + 4) e₃ (omega (arith, length-record_head 1 (b₂ - f₂))) (omega (arith, g.fills, length-block_of t, g.room))
             ∙ ap (λ (j : ℕ). put o₂ f₂ (record_head 1 j ++ encode_block (expand t))) k
-            ∙ g.same ∙ ap (put o₁ f) (sym (opened-bytes l ws start e p end w.inner h n en)) ∙ w.same;
+            ∙ g.same ∙ ap (put o₁ f) (sym (around-bytes l ws start e p end w.inner h.around n c d en ec ed)) ∙ w.same;
         fills = omega (arith, g.fills, length-block_of t);
       }
+
+  pub writing-same : {s : State} {o o₁ : List ℕ} {front f b e p end : ℕ} (g : ℕ) → g ≡ e → Writing l ws start s o o₁ front f b e p end → Writing l ws start s o o₁ front f b g p end
+  writing-same g eg w = rw eg w

@@ -1,6 +1,11 @@
 -- What an entry of a state says of the expansion (02 C-14), by its numbers.
 use Rattle.std.specs.Prelude.{◌-◌, suc, zero, ℕ, Bool, false, true, ltb}
 use Rattle.counting.specs.Held.{Held}
+use Rattle.state_words.specs.declared.EntryWords.{EntryWords}
+
+-- The numbers that six words are.
+abbrev pub as_held : EntryWords → Held
+as_held w = record { what = w.what; at = w.at; top = w.top; reached = w.reached; running = w.running; progress = w.progress }
 
 -- Something can be open inside it: of a block always, of a loop where its body has a place. By what it is held open as, and
 -- its progress.

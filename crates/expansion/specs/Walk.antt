@@ -38,9 +38,9 @@ pub record Left (l ws : List ℕ) (start e p end : ℕ) (s : State) : Type 0 whe
 abbrev pub length_at : List ℕ → ℕ → ℕ → ℕ
 length_at l start p = val (part l (start + p) 2)
 
--- An entry stands at word e, of a block or of a loop whose reached count is not above its top.
-abbrev pub EntryAt : List ℕ → ℕ → Type 0
-EntryAt ws e = (length ws ≡ 189) × (e + 6 ≤ 189) × (1 ≤ get_or ws e 0) × (get_or ws e 0 ≤ 2) × (get_or ws e 0 ≡ 2 → get_or ws (e + 3) 0 ≤ get_or ws (e + 2) 0)
+-- An entry is held open, as a block or as a loop whose reached count is not above its top.
+abbrev pub IsHeld : Held → Type 0
+IsHeld h = (1 ≤ h.what) × (h.what ≤ 2) × (h.what ≡ 2 → h.reached ≤ h.top)
 
 -- The entry at word e stands around m: what it is held open as has a record at p that ends by `end`, and s expands to m with
 -- its turns to come around it and what is behind it.

@@ -13,12 +13,12 @@ use Rattle.record.specs.Header.{contents_at, header_in, largest_of}
 use Rattle.record.specs.Holding.{ProgramWithStore}
 use Rattle.record.specs.Rows.{first_row}
 use Rattle.record.proofs.HeaderLaws.{contents_at-high}
-use Rattle.record.proofs.LentRowLaws.{lent-held, lent-record, lent-store, lent-values, lent-whole}
+use Rattle.record.proofs.LentRowLaws.{lent-held, lent-record, lent-store, lent-values}
 use Rattle.rules.specs.Literals.{small_values}
 use Rattle.rules.specs.Store.{up_to}
 use Rattle.rules.specs.Syntax.{Block}
 use Rattle.forecast.specs.Figures.{longest_of, program_weights, steps_of, term_weights}
-use Rattle.forecast.specs.Forecast.{Forecast, figure_rows, forecast_call, forecast_rows}
+use Rattle.forecast.specs.Forecast.{figure_rows, forecast_call, forecast_rows}
 use Rattle.forecast.specs.Rows.{RowIn, RowOf}
 use Rattle.forecast.specs.Steady.{steady}
 use Rattle.forecast.proofs.ForecastLaws.{forecast-bound, forecast-figures, forecast-large, forecast-refused}
@@ -27,24 +27,20 @@ use Rattle.forecaster.specs.Represents.{refused_with}
 -- ROWS 1 TO 6, 15 AND 16: a refusal is by the first row that applies
 
 module _ (buf : List ℕ) (used : ℕ) (store : List ℕ) where
-  refuses : (n : ℕ) → first_row (forecast_rows buf used store) ≡ n → (n ≡ 0 → ⊥) → (r : Forecast) → r ≡ refused_with n → r ≡ forecast_call buf used store
-  refuses n e h r answers = answers ∙ ap refused_with (sym e) ∙ sym (forecast-refused buf used store (λ z. h (sym e ∙ z)))
+  refuses : (n : ℕ) → first_row (forecast_rows buf used store) ≡ n → (n ≡ 0 → ⊥) → refused_with n ≡ forecast_call buf used store
+  refuses n e h = ap refused_with (sym e) ∙ sym (forecast-refused buf used store (λ z. h (sym e ∙ z)))
 
   module _ (n k : ℕ) (checked : check_program buf used ≡ record { number = n; k = k }) where
-    pub refuses-record : (n ≡ 0 → ⊥) → (r : Forecast) → r ≡ refused_with n → r ≡ forecast_call buf used store
+    pub refuses-record : (n ≡ 0 → ⊥) → refused_with n ≡ forecast_call buf used store
     refuses-record h = refuses n (lent-record buf used store n k checked (figure_rows buf used store) h) h
 
     module _ (z : n ≡ 0) (bytes : Bytes buf) where
-      pub refuses-store : (length store ≡ k → ⊥) → (r : Forecast) → r ≡ refused_with 6 → r ≡ forecast_call buf used store
+      pub refuses-store : (length store ≡ k → ⊥) → refused_with 6 ≡ forecast_call buf used store
       refuses-store h = refuses 6 (lent-store buf used store n k checked (figure_rows buf used store) z bytes h) (λ e. omega arith)
-
-      -- the header as code reads it
-      pub whole : contents_at (header_in buf) ≤ length buf
-      whole = lent-whole buf used store n k checked (figure_rows buf used store) z bytes
 
       module _ (count : length store ≡ k) (hd : Header) (e : hd ≡ header_in buf) (largest : ℕ) (limits : largest ≡ largest_of hd)
           (above : Bool) (tells : above ≡ not (small_values (up_to largest) store)) where
-        pub refuses-values : above ≡ true → (r : Forecast) → r ≡ refused_with 16 → r ≡ forecast_call buf used store
+        pub refuses-values : above ≡ true → refused_with 16 ≡ forecast_call buf used store
         refuses-values t = refuses 16 (lent-values buf used store n k checked (figure_rows buf used store) z bytes count hd e largest limits above tells t) (λ q. omega arith)
 
         pub lent : above ≡ false → (P : Block) × ProgramWithStore hd P buf used store
@@ -65,12 +61,12 @@ module _ {hd : Header} {P : Block} {buf : List ℕ} {used : ℕ} {store : List �
   pub row-16 : (k : ℕ) × ((k ≤ 16) × RowIn buf k start used)
   row-16 = (hd.k, (w.holds.header.k-high, (P, row-k)))
 
-  pub refuses-bound : (b : Bool) → b ≡ not (steady P) → b ≡ true → (r : Forecast) → r ≡ refused_with 18 → r ≡ forecast_call buf used store
-  refuses-bound b e t r answers = answers ∙ sym (forecast-bound w.holds w.short store w.count w.values (sym e ∙ t))
+  pub refuses-bound : (b : Bool) → b ≡ not (steady P) → b ≡ true → refused_with 18 ≡ forecast_call buf used store
+  refuses-bound b e t = sym (forecast-bound w.holds w.short store w.count w.values (sym e ∙ t))
 
   module _ (b : Bool) (e : b ≡ not (steady P)) (f : b ≡ false) where
-    pub refuses-large : 18446744073709551615 < steps_of store P → (r : Forecast) → r ≡ refused_with 19 → r ≡ forecast_call buf used store
-    refuses-large g r answers = answers ∙ sym (forecast-large w.holds w.short store w.count w.values (sym e ∙ f) g)
+    pub refuses-large : 18446744073709551615 < steps_of store P → refused_with 19 ≡ forecast_call buf used store
+    refuses-large g = sym (forecast-large w.holds w.short store w.count w.values (sym e ∙ f) g)
 
     -- a length in front of which the header and the block's head stand
     pub before-fits : (a : ℕ) → a + 16 < 18446744073709551616 → start + a ≤ 18446744073709551615
@@ -78,8 +74,7 @@ module _ {hd : Header} {P : Block} {buf : List ℕ} {used : ℕ} {store : List �
 
     pub foretells : (n a c : ℕ) → n ≡ steps_of store P → n < 18446744073709551616 → a ≡ longest_of program_weights store P → a + 16 < 18446744073709551616
         → c ≡ longest_of (term_weights hd.k) store P → c + 16 < 18446744073709551616
-        → (r : Forecast) → r ≡ record { number = 0; steps = n; program_bytes = start + a; term_bytes = start + c } → r ≡ forecast_call buf used store
-    foretells n a c en gn ea ga ec gc r answers =
-        answers
-        ∙ sym (forecast-figures w.holds w.short store w.count w.values (sym e ∙ f) n (start + a) (start + c) en
+        → record { number = 0; steps = n; program_bytes = start + a; term_bytes = start + c } ≡ forecast_call buf used store
+    foretells n a c en gn ea ga ec gc =
+        sym (forecast-figures w.holds w.short store w.count w.values (sym e ∙ f) n (start + a) (start + c) en
         (rw (begins, ea) refl) (rw (begins, ec) refl) (omega arith) (before-fits a ga) (before-fits c gc))

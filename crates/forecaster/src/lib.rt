@@ -6,17 +6,25 @@ ghost use Rattle.std.specs.Prelude.{◌≡◌};
 ghost use Rattle.record.specs.Holding.{ProgramWithStore};
 ghost use Rattle.rules.specs.Syntax.{Block};
 ghost use Rattle.forecast.specs.Forecast.{forecast_call};
-ghost use Rattle.forecaster.specs.Represents.{as_forecast, refused_with};
+ghost use Rattle.forecaster.specs.Represents.{as_forecast, forecast_of};
 
 use bound_check::bound_assigned;
 use checker::some_above;
 use program_checker::check_program;
 use record::Header;
-use record::refusal::{BAD_STORE, BOUND_ASSIGNED, FIGURE_TOO_LARGE, VALUE_ABOVE_CEILING};
+use record::refusal::Refusal;
 use room_forecast::{longest_program, longest_term};
-use step_forecast::{Steps, count_steps};
+use step_forecast::count_steps;
 
-// The number of the refusal and zeros, or 0 and the three figures.
+// The three figures.
+#[derive(Clone, Copy)]
+pub struct Figures {
+    pub steps: u64,
+    pub program_bytes: u64,
+    pub term_bytes: u64,
+}
+
+// The answer as it crosses the C boundary: the number of the refusal and zeros, or 0 and the three figures.
 #[repr(C)]
 #[derive(Clone, Copy)]
 pub struct Forecast {
@@ -26,54 +34,58 @@ pub struct Forecast {
     pub term_bytes: u64,
 }
 
-fn refused(number: u32) -> Forecast
-    ensures { as_forecast result ≡ refused_with number }
-{
-    Forecast {
-        number: number,
-        steps: 0,
-        program_bytes: 0,
-        term_bytes: 0,
+impl From<Result<Figures, Refusal>> for Forecast {
+    ghost from_gives = { λ answer forecast. as_forecast forecast ≡ forecast_of answer };
+
+    fn from(answer: Result<Figures, Refusal>) -> Forecast {
+        match answer {
+            Ok(figures) => Forecast {
+                number: 0,
+                steps: figures.steps,
+                program_bytes: figures.program_bytes,
+                term_bytes: figures.term_bytes,
+            },
+            Err(refusal) => Forecast {
+                number: refusal.number(),
+                steps: 0,
+                program_bytes: 0,
+                term_bytes: 0,
+            },
+        }
     }
 }
 
 // Rows 18 and 19, and the figures. In a buffer's length of program only the steps can be too many for 64 bits, so only they are tested;
 // each length is what stands before the commands, which no step changes, and the most that the commands come to.
-fn forecast_lent(buf: &[u8], used: usize, h: Header, store: &[u32]) -> Forecast
+fn forecast_lent(buf: &[u8], used: usize, h: Header, store: &[u32]) -> Result<Figures, Refusal>
     requires { (P : Block) × ProgramWithStore h P buf.now used store.now }
-    ensures { as_forecast result ≡ forecast_call buf.now used store.now }
+    ensures { forecast_of result ≡ forecast_call buf.now used store.now }
 {
     let start = h.contents_at() + 4;
     if bound_assigned(buf, start, used) {
-        return refused(BOUND_ASSIGNED);
+        return Err(Refusal::BoundAssigned);
     }
-    let Steps::Number(steps) = count_steps(buf, store, start, used) else {
-        return refused(FIGURE_TOO_LARGE);
+    let Some(steps) = count_steps(buf, store, start, used) else {
+        return Err(Refusal::FigureTooLarge);
     };
     let before = start as u64;
-    Forecast {
-        number: 0,
-        steps: steps,
+    Ok(Figures {
+        steps,
         program_bytes: before + longest_program(buf, store, start, used),
         term_bytes: before + longest_term(buf, store, start, used, h.k),
-    }
+    })
 }
 
 // The call.
-pub fn forecast_run(buf: &[u8], used: usize, store: &[u32]) -> Forecast
-    ensures { as_forecast result ≡ forecast_call buf.now used store.now }
+pub fn forecast_run(buf: &[u8], used: usize, store: &[u32]) -> Result<Figures, Refusal>
+    ensures { forecast_of result ≡ forecast_call buf.now used store.now }
 {
-    let checked = check_program(buf, used);
-    let number = checked.number;
-    if number != 0 {
-        return refused(number);
+    let h = check_program(buf, used)?;
+    if store.len() != h.k as usize {
+        return Err(Refusal::BadStore);
     }
-    if store.len() != checked.k as usize {
-        return refused(BAD_STORE);
-    }
-    let h = record::read_header(buf);
     if some_above(store, h.largest()) {
-        return refused(VALUE_ABOVE_CEILING);
+        return Err(Refusal::ValueAboveCeiling);
     }
     forecast_lent(buf, used, h, store)
 }

@@ -17,6 +17,7 @@ const MOST: usize = 9223372036854775807;
 const KEPT: usize = 4 * VARIABLES as usize + 1;
 
 // Reads until the buffer is full or the input ends, and says how many bytes came.
+// Kept: a loop over `read`, for the project uses no heap: read_to_end fills a Vec, and read_exact does not say how many bytes came.
 fn read_full<R: Read>(input: &mut R, buf: &mut [u8]) -> io::Result<usize>
     ensures { IfOk result (λ n. n ≤ length buf.new) }
 {
@@ -42,10 +43,7 @@ fn read_record<R: Read>(input: &mut R, a: &mut [u8]) -> io::Result<usize>
         return Ok(first);
     }
     let said = get_u16(a, 0);
-    if said < 2 {
-        return Ok(2);
-    }
-    if BUFFER < said {
+    if said < 2 || BUFFER < said {
         return Ok(2);
     }
     let more = read_full(input, &mut a[2..said])?;
@@ -64,6 +62,7 @@ fn is_short(a: &[u8], record: usize) -> bool
 }
 
 // Of the rest of the input only the number of bytes matters, and of that only that it is too large.
+// Kept: a loop over `read` for the same rule: what is counted is read into lent space, since read_to_end would keep it in a Vec.
 fn count_rest<R: Read>(input: &mut R, space: &mut [u8], before: usize) -> io::Result<usize>
     requires { length space.old ≡ program_buffer }
 {

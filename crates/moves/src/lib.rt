@@ -28,64 +28,45 @@ fn behind_aligned(end: usize, count: usize) -> usize
     end % 16
 }
 
-// From the first byte on: where the two places overlap, each byte is read before it is written over.
-fn move_bytes_down(buf: &mut [u8], from: usize, to: usize, count: usize)
-    requires { (to ≤ from) × (from + count ≤ length buf.old) }
-    ensures { buf.new ≡ put buf.old to (part buf.old from count) }
-{
-    let mut i = 0;
-    while i < count {
-        buf[to + i] = buf[from + i];
-        i += 1;
-    }
-}
-
+#[tactic(auto, using(buffer::proofs::StdLaws::moved_down))]
 pub fn move_down(buf: &mut [u8], from: usize, to: usize, count: usize)
     requires { (to ≤ from) × (from + count ≤ length buf.old) }
     ensures { buf.new ≡ put buf.old to (part buf.old from count) }
 {
     let head = before_aligned(to, count);
-    move_bytes_down(buf, from, to, head);
-    move_bytes_down(buf, from + head, to + head, count - head);
+    buf.copy_within(from..from + head, to);
+    buf.copy_within(from + head..from + count, to + head);
 }
 
-// From the last byte on, for the same reason.
-fn move_bytes_up(buf: &mut [u8], from: usize, to: usize, count: usize)
-    requires { (from ≤ to) × (to + count ≤ length buf.old) }
-    ensures { buf.new ≡ put buf.old to (part buf.old from count) }
-{
-    let mut left = count;
-    while 0 < left {
-        left -= 1;
-        buf[to + left] = buf[from + left];
-    }
-}
-
+#[tactic(auto, using(buffer::proofs::StdLaws::moved_up))]
 pub fn move_up(buf: &mut [u8], from: usize, to: usize, count: usize)
     requires { (from ≤ to) × (to + count ≤ length buf.old) }
     ensures { buf.new ≡ put buf.old to (part buf.old from count) }
 {
     let rest = count - behind_aligned(to + count, count);
-    move_bytes_up(buf, from + rest, to + rest, count - rest);
-    move_bytes_up(buf, from, to, rest);
+    buf.copy_within(from + rest..from + count, to + rest);
+    buf.copy_within(from..from + rest, to);
 }
 
-fn copy_bytes(src: &[u8], from: usize, dst: &mut [u8], to: usize, count: usize)
-    requires { (from + count ≤ length src.now) × (to + count ≤ length dst.old) }
-    ensures { dst.new ≡ put dst.old to (part src.now from count) }
+// Kept: a loop and not `copy_from_slice`, for that is a call of memcpy, and the archive is to need memset alone (./test sees to it).
+fn copy_bytes(src: &[u8], dst: &mut [u8])
+    requires { length src.now ≡ length dst.old }
+    ensures { dst.new ≡ src.now }
 {
-    let mut i = 0;
-    while i < count {
-        dst[to + i] = src[from + i];
-        i += 1;
+    for (i, byte) in src.iter().enumerate() {
+        dst[i] = *byte;
     }
 }
 
+#[tactic(auto, using(buffer::proofs::StdLaws::copied))]
 pub fn copy(src: &[u8], from: usize, dst: &mut [u8], to: usize, count: usize)
     requires { (from + count ≤ length src.now) × (to + count ≤ length dst.old) }
     ensures { dst.new ≡ put dst.old to (part src.now from count) }
 {
     let head = before_aligned(to, count);
-    copy_bytes(src, from, dst, to, head);
-    copy_bytes(src, from + head, dst, to + head, count - head);
+    copy_bytes(&src[from..from + head], &mut dst[to..to + head]);
+    copy_bytes(
+        &src[from + head..from + count],
+        &mut dst[to + head..to + count],
+    );
 }

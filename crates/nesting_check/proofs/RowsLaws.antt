@@ -3,6 +3,7 @@ use Prim.Native.Nat.{◌+◌, ◌-◌, ◌<◌, ◌≤◌, max, suc, zero, ℕ}
 use mathlib.Core.Path.{ap, refl, subst, sym, ◌∙◌, ◌≡◌}
 use mathlib.Core.Bool.{Bool, ◌||◌, false, true}
 use mathlib.Core.List.{List, [], ◌∷◌}
+use Rattle.std.proofs.Common.{Some}
 use borrow.Author.Tests.{le-ltb, lt-ltb, ltb-false, ltb-true}
 use lib.Dec.{ltb}
 use lib.ListN.{get_or, length, set}
@@ -144,13 +145,11 @@ module _ {buf : List ℕ} {used : ℕ} {deep : Bool} {ends : List ℕ} {depth q 
         by-view _ (first_assign v) = omega (arith, low, v.stored, v.size)
         by-view _ (first_loop v) = omega (arith, low, v.stored, v.size)
 
-    pub turn-assign : (kind : ℕ) → kind ≡ val (part buf (q + 2) 2) → kind ≡ 2 → Turned buf used deep ends depth q (record { depth = depth; place = q + 16 })
+    pub turn-assign : (kind : ℕ) → kind ≡ val (part buf (q + 2) 2) → kind ≡ 2 → Turned buf used deep depth ends depth q (Some (q + 16))
     turn-assign kind g k =
         let v = as-assign r.here some (sym g ∙ k) in
-        let w : q + block_size r.block ≡ q + 16 + block_size v.rest = omega (arith, v.size) in
-        record {
-          over = λ z. absurd (omega (arith, r.few));
-          on = λ z. record {
+        let w : q + block_size r.block ≡ q + 16 + block_size v.rest = omega (arith, v.size) in (
+          record {
             rows = v.rest ∷ r.outer;
             stand = (
               v.after,
@@ -160,18 +159,14 @@ module _ {buf : List ℕ} {used : ℕ} {deep : Bool} {ends : List ℕ} {depth q 
             count = sym r.count;
             few = r.few;
             same = sym (deep-assign v.variable v.expr v.rest r.outer) ∙ ap (λ (b : Block). deep_from (b ∷ r.outer)) (sym v.is) ∙ r.same;
-          };
-          less = λ z. (omega arith, omega arith);
-        }
+          },
+          omega arith,
+          omega arith,
+        )
 
     -- it is too deep
-    pub turn-over : (kind : ℕ) → kind ≡ val (part buf (q + 2) 2) → (kind ≡ 2 → ⊥) → depth ≡ 32 → Turned buf used deep ends depth q (record { depth = 33; place = q })
-    turn-over kind g k c =
-        record {
-          over = λ z. sym r.same ∙ by-view (val (part buf (q + 2) 2)) (command-view r.here some) (λ e. k (g ∙ e));
-          on = λ z. absurd (z refl);
-          less = λ z. absurd (z refl);
-        }
+    pub turn-over : (kind : ℕ) → kind ≡ val (part buf (q + 2) 2) → (kind ≡ 2 → ⊥) → depth ≡ 32 → deep ≡ true
+    turn-over kind g k c = sym r.same ∙ by-view (val (part buf (q + 2) 2)) (command-view r.here some) (λ e. k (g ∙ e))
       where
         by-view : (n : ℕ) → CommandView buf q r.block n → (n ≡ 2 → ⊥) → deep_from (r.block ∷ r.outer) ≡ true
         by-view _ (first_nest v) h =
@@ -181,65 +176,62 @@ module _ {buf : List ℕ} {used : ℕ} {deep : Bool} {ends : List ℕ} {depth q 
             ap (λ (b : Block). deep_from (b ∷ r.outer)) v.is ∙ deep-loop v.variable v.bound v.body v.rest r.outer
             ∙ deep-33 v.body v.rest r.outer (omega (arith, r.count))
 
-  pub turn_end : q ≡ get_or ends (depth - 1) 0 → Turned buf used deep ends depth q (record { depth = depth - 1; place = q })
+  pub turn_end : q ≡ get_or ends (depth - 1) 0 → Turned buf used deep depth ends (depth - 1) q (Some q)
   turn_end e =
       let n : r.block ≡ empty = block_size-zero r.block (omega (arith, r.end)) in
-      let z : q + block_size r.block ≡ q = omega (arith, r.end) in
-      record {
-        over = λ f. absurd (omega (arith, r.few));
-        on = λ f. record {
+      let z : q + block_size r.block ≡ q = omega (arith, r.end) in (
+        record {
           rows = r.outer;
           stand = subst (Standing buf used ends r.outer) z r.behind;
           count = omega (arith, r.count);
           few = omega (arith, r.few);
           same = sym (deep-empty r.outer (omega (arith, r.count, r.few))) ∙ ap (λ (b : Block). deep_from (b ∷ r.outer)) (sym n) ∙ r.same;
-        };
-        less = λ f. (omega (arith, r.count), omega arith);
-      }
+        },
+        omega (arith, r.count),
+        omega arith,
+      )
 
-  -- a loop or a block: b inside, from a bytes on, and t behind, from n bytes on
-  open_row : (b t : Block) (a n v : ℕ) → BlockAt buf (q + a) b → BlockAt buf (q + n) t → n ≡ a + block_size b → q + block_size r.block ≡ q + n + block_size t → 4 ≤ a
-      → deep_from (r.block ∷ r.outer) ≡ deep_from (b ∷ t ∷ r.outer) → (depth ≡ 32 → ⊥) → length ends ≡ 32 → v ≡ q + n
-      → Turned buf used deep (set ends depth v) depth q (record { depth = depth + 1; place = q + a })
-  open_row b t a n v hb ht e s l d f c g =
-      let k : q + n ≡ q + a + block_size b = omega arith in
-      let w : q + block_size r.block ≡ q + a + block_size b + block_size t = omega arith in
-      let m : depth < 32 = below depth r.few f in
-      record {
-        over = λ z. absurd (omega arith);
-        on = λ z. record {
-          rows = b ∷ t ∷ r.outer;
-          stand = (
-            hb,
-            ap (λ (y : ℕ). get_or (set ends depth v) y 0) {x = suc (length r.outer)} {y = depth} (omega (arith, r.count)) ∙ get_or-set_same ends depth v 0 (omega arith) ∙ g ∙ k,
-            (
-              block-index ht k,
-              get_or-set_other ends depth (length r.outer) v 0 (λ y. omega (arith, r.count)) ∙ ap (λ (y : ℕ). get_or ends y 0) {x = length r.outer} {y = depth - 1} (omega (arith, r.count)) ∙ r.end ∙ w,
-              standing-set buf used ends r.outer (q + a + block_size b + block_size t) depth v (omega (arith, r.count)) (subst (Standing buf used ends r.outer) w r.behind),
-            ),
-          );
-          count = omega (arith, r.count);
-          few = omega arith;
-          same = sym d ∙ r.same;
-        };
-        less = λ z. (omega arith, omega arith);
-      }
-    where
-      below : (x : ℕ) → x ≤ 32 → (x ≡ 32 → ⊥) → x < 32
-      below x l f = omega arith
+  -- another row is open within it: the ends and how many they are
+  module _ (room : depth < 32) (long : length ends ≡ 32) (v : ℕ) (ends' : List ℕ) (more : ends' ≡ set ends depth v) (depth' : ℕ) (one : depth' ≡ depth + 1) where
+    -- a loop or a block: b inside, from a bytes on, and t behind, from n bytes on
+    open_row : (b t : Block) (a n : ℕ) → BlockAt buf (q + a) b → BlockAt buf (q + n) t → n ≡ a + block_size b → q + block_size r.block ≡ q + n + block_size t → 4 ≤ a
+        → deep_from (r.block ∷ r.outer) ≡ deep_from (b ∷ t ∷ r.outer) → v ≡ q + n → Turned buf used deep depth ends' depth' q (Some (q + a))
+    open_row b t a n hb ht e s l d g =
+        let k : q + n ≡ q + a + block_size b = omega arith in
+        let w : q + block_size r.block ≡ q + a + block_size b + block_size t = omega arith in
+        let kept : (i : ℕ) → (i ≡ depth → ⊥) → get_or ends' i 0 ≡ get_or ends i 0 = λ i f. ap (λ (l : List ℕ). get_or l i 0) more ∙ get_or-set_other ends depth i v 0 f in (
+          record {
+            rows = b ∷ t ∷ r.outer;
+            stand = (
+              hb,
+              ap (λ (l : List ℕ). get_or l (suc (length r.outer)) 0) more ∙ ap (λ (y : ℕ). get_or (set ends depth v) y 0) {x = suc (length r.outer)} {y = depth} (omega (arith, r.count)) ∙ get_or-set_same ends depth v 0 (omega arith) ∙ g ∙ k,
+              (
+                block-index ht k,
+                kept (length r.outer) (λ y. omega (arith, r.count)) ∙ ap (λ (y : ℕ). get_or ends y 0) {x = length r.outer} {y = depth - 1} (omega (arith, r.count)) ∙ r.end ∙ w,
+                subst (λ (l : List ℕ). Standing buf used l r.outer (q + a + block_size b + block_size t)) (sym more)
+                    (standing-set buf used ends r.outer (q + a + block_size b + block_size t) depth v (omega (arith, r.count)) (subst (Standing buf used ends r.outer) w r.behind)),
+              ),
+            );
+            count = omega (arith, r.count);
+            few = omega arith;
+            same = sym d ∙ r.same;
+          },
+          omega arith,
+          omega arith,
+        )
 
-  module _ (c : length ends ≡ 32) (f : q ≡ get_or ends (depth - 1) 0 → ⊥) (d : depth ≡ 32 → ⊥) (kind : ℕ) (g : kind ≡ val (part buf (q + 2) 2)) (v : ℕ) (e : v ≡ q + val (part buf q 2)) where
-    pub turn-block : kind ≡ 1 → Turned buf used deep (set ends depth v) depth q (record { depth = depth + 1; place = q + 4 })
-    turn-block k =
-        let w = as-nest r.here (some f) (sym g ∙ k) in
-        open_row w.body w.rest 4 (4 + block_size w.body) v w.inside w.after refl (omega (arith, w.size)) (omega arith)
-        (ap (λ (z : Block). deep_from (z ∷ r.outer)) w.is ∙ deep-nest w.body w.rest r.outer) d c (e ∙ ap (λ (z : ℕ). q + z) w.stored)
+    module _ (f : q ≡ get_or ends (depth - 1) 0 → ⊥) (kind : ℕ) (g : kind ≡ val (part buf (q + 2) 2)) (e : v ≡ q + val (part buf q 2)) where
+      pub turn-block : kind ≡ 1 → Turned buf used deep depth ends' depth' q (Some (q + 4))
+      turn-block k =
+          let w = as-nest r.here (some f) (sym g ∙ k) in
+          open_row w.body w.rest 4 (4 + block_size w.body) w.inside w.after refl (omega (arith, w.size)) (omega arith)
+          (ap (λ (z : Block). deep_from (z ∷ r.outer)) w.is ∙ deep-nest w.body w.rest r.outer) (e ∙ ap (λ (z : ℕ). q + z) w.stored)
 
-    pub turn-loop : (kind ≡ 1 → ⊥) → (kind ≡ 2 → ⊥) → Turned buf used deep (set ends depth v) depth q (record { depth = depth + 1; place = q + 20 })
-    turn-loop k₁ k₂ =
-        let w = as-loop r.here (some f) (third (val (part buf (q + 2) 2)) (command-kind r.here (some f)) (λ z. k₁ (g ∙ z)) (λ z. k₂ (g ∙ z))) in
-        open_row w.body w.rest 20 (20 + block_size w.body) v w.inside w.after refl (omega (arith, w.size)) (omega arith)
-        (ap (λ (z : Block). deep_from (z ∷ r.outer)) w.is ∙ deep-loop w.variable w.bound w.body w.rest r.outer) d c (e ∙ ap (λ (z : ℕ). q + z) w.stored)
-      where
-        third : (n : ℕ) → (1 ≤ n) × (n ≤ 3) → (n ≡ 1 → ⊥) → (n ≡ 2 → ⊥) → n ≡ 3
-        third n l a b = omega arith
+      pub turn-loop : (kind ≡ 1 → ⊥) → (kind ≡ 2 → ⊥) → Turned buf used deep depth ends' depth' q (Some (q + 20))
+      turn-loop k₁ k₂ =
+          let w = as-loop r.here (some f) (third (val (part buf (q + 2) 2)) (command-kind r.here (some f)) (λ z. k₁ (g ∙ z)) (λ z. k₂ (g ∙ z))) in
+          open_row w.body w.rest 20 (20 + block_size w.body) w.inside w.after refl (omega (arith, w.size)) (omega arith)
+          (ap (λ (z : Block). deep_from (z ∷ r.outer)) w.is ∙ deep-loop w.variable w.bound w.body w.rest r.outer) (e ∙ ap (λ (z : ℕ). q + z) w.stored)
+        where
+          third : (n : ℕ) → (1 ≤ n) × (n ≤ 3) → (n ≡ 1 → ⊥) → (n ≡ 2 → ⊥) → n ≡ 3
+          third n l a b = omega arith

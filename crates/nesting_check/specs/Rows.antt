@@ -1,10 +1,9 @@
 -- A pass over a program's bytes with the ends of the rows that are open (02 C-14, refusal 12).
-use Rattle.std.specs.Prelude.{◌+◌, ◌≤◌, suc, ℕ, ◌≡◌, Bool, ◌||◌, false, true, List, [], ◌∷◌, ltb, get_or, length}
+use Rattle.std.specs.Prelude.{◌+◌, ◌≤◌, suc, ℕ, ◌≡◌, Bool, ◌||◌, false, true, List, [], ◌∷◌, Option, None, Some, ltb, get_or, length}
 use Rattle.record.specs.Program.{block_size}
 use Rattle.rules.specs.Syntax.{Block}
 use Rattle.place.specs.ProgramView.{BlockAt}
 use Rattle.counting.specs.Depth.{depth_within}
-use Rattle.nesting_check.specs.declared.Scan.{Scan}
 
 -- What is left of each open row, innermost first: some of it is nested over 32 deep.
 unfoldable pub deep_from : List Block → Bool
@@ -24,8 +23,7 @@ pub record Scanned (buf : List ℕ) (used : ℕ) (deep : Bool) (ends : List ℕ)
   pub few : depth ≤ 32
   pub same : deep_from rows ≡ deep
 
--- A turn: 33 says that it is too deep.
-pub record Turned (buf : List ℕ) (used : ℕ) (deep : Bool) (ends : List ℕ) (depth q : ℕ) (r : Scan) : Type 0 where
-  pub over : r.depth ≡ 33 → deep ≡ true
-  pub on : (r.depth ≡ 33 → ⊥) → Scanned buf used deep ends r.depth r.place
-  pub less : (r.depth ≡ 33 → ⊥) → (r.depth + q + q + 1 ≤ depth + r.place + r.place) × (q ≤ r.place)
+-- A turn at q, before which so many rows are open: the program is too deep, or the pass comes to the place that is handed back.
+abbrev pub Turned : List ℕ → ℕ → Bool → ℕ → List ℕ → ℕ → ℕ → Option ℕ → Type 0
+Turned buf used deep before ends depth q None = deep ≡ true
+Turned buf used deep before ends depth q (Some r) = Scanned buf used deep ends depth r × (depth + q + q + 1 ≤ before + r + r) × (q ≤ r)

@@ -8,9 +8,9 @@ ghost use Rattle.record.specs.Rows.{finished_term};
 ghost use Rattle.rules.specs.FreeVariables.{all_vars, no_vars};
 ghost use Rattle.rules.specs.Syntax.{Term, num, tuple};
 
-use buffer::{get_u16, get_u32};
+use buffer::get_u32;
 use record::Header;
-use record::kind::TUPLE;
+use record::kind::Kind;
 
 pub mod values;
 
@@ -18,7 +18,7 @@ pub fn is_finished(buf: &[u8], used: usize, h: Header) -> bool
     requires { ((t : Term) × TermIn all_vars h t buf.now used) × (length buf.now ≤ 16384) }
     ensures { (t : Term) → TermIn all_vars h t buf.now used → result ≡ finished_term t }
 {
-    get_u16(buf, h.contents_at() + 2) == TUPLE
+    matches!(Kind::read(buf, h.contents_at() + 2), Kind::Tuple)
 }
 
 // The numeral number i of the row of atoms at an index.
@@ -34,9 +34,7 @@ pub fn copy_numerals(buf: &[u8], used: usize, h: Header, store: &mut [u32])
     ensures { (vs : List ℕ) → TermIn no_vars h (tuple (map num vs)) buf.now used → store.new ≡ vs }
 {
     let atoms = h.contents_at() + 4;
-    let mut i = 0;
-    while i < store.len() {
-        store[i] = numeral(buf, atoms, i);
-        i += 1;
+    for (i, value) in store.iter_mut().enumerate() {
+        *value = numeral(buf, atoms, i);
     }
 }

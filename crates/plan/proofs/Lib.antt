@@ -1,2 +1,2 @@
-pub mod CaseLaws
+pub mod LevelsLaws
 pub mod TellsLaws

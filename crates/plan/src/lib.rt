@@ -2,7 +2,7 @@
 // they run in lock step: a rule of the one is a rule of the other.
 #![tactic(auto)]
 
-ghost use Rattle.std.specs.Prelude.{◌≡◌, suc, ◌<◌, ◌≤◌};
+ghost use Rattle.std.specs.Prelude.{◌≡◌, ℕ, suc, ◌+◌, ◌*◌, ◌^◌, ◌<◌, ◌≤◌, false, true};
 ghost use Rattle.rules.specs.Store.{up_to};
 ghost use Rattle.run.specs.Represents.{as_outcome};
 ghost use Rattle.plan.specs.declared.Rule.TheVariants.{Bind, Evaluate, Finished, Leave};
@@ -44,93 +44,131 @@ pub struct Plan {
     pub down: usize,
 }
 
-// Every plan is made here. The functions behind it are the plans by what the step does, for both engines.
-fn make(
-    rule: Rule,
-    at: usize,
-    levels: usize,
-    variable: u32,
-    value: u32,
-    up: usize,
-    down: usize,
-) -> Plan
-    ensures { result ≡ plan levels at rule variable value up down }
-{
-    Plan {
-        rule: rule,
-        levels: levels,
-        at: at,
-        variable: variable,
-        value: value,
-        up: up,
-        down: down,
+// Where a step is made: the index of its command or redex, and how many blocks or let-alls are open around it. Its functions are the
+// plans by what the step does there, for both engines.
+#[derive(Clone, Copy)]
+pub struct Place {
+    pub at: usize,
+    pub levels: usize,
+}
+
+impl Place {
+    // No step.
+    pub fn finished(self) -> Plan
+        ensures { result ≡ plan self.levels self.at Finished 0 0 0 0 }
+    {
+        Plan {
+            rule: Rule::Finished,
+            levels: self.levels,
+            at: self.at,
+            variable: 0,
+            value: 0,
+            up: 0,
+            down: 0,
+        }
+    }
+
+    // The 16 bytes of an assignment go, and so do those of a let-one before its last term.
+    pub fn bind(self, variable: u32, value: u32) -> Plan
+        ensures { result ≡ plan self.levels self.at Bind variable value 0 16 }
+    {
+        Plan {
+            rule: Rule::Bind,
+            variable,
+            value,
+            down: 16,
+            ..self.finished()
+        }
+    }
+
+    // `down` bytes go where an expression becomes a literal, or succ or pred the numeral.
+    pub fn evaluate(self, variable: u32, value: u32, down: usize) -> Plan
+        ensures { result ≡ plan self.levels self.at Evaluate variable value 0 down }
+    {
+        Plan {
+            rule: Rule::Evaluate,
+            variable,
+            value,
+            down,
+            ..self.finished()
+        }
+    }
+
+    // `down` bytes go with an empty block, or with a let-all and its tuple.
+    pub fn leave(self, down: usize) -> Plan
+        ensures { result ≡ plan self.levels self.at Leave 0 0 0 down }
+    {
+        Plan {
+            rule: Rule::Leave,
+            down,
+            ..self.finished()
+        }
+    }
+
+    // Plus one, or succ, of this value.
+    #[tactic(auto, unfolding(crate::specs::Plan::plan_raise, rules::specs::Store::up_to))]
+    pub fn raise(self, variable: u32, value: u32, down: usize, largest: u32) -> Plan
+        ensures { result ≡ plan_raise self.levels self.at variable (suc value) down (up_to largest (suc value)) }
+    {
+        if largest <= value {
+            return Plan {
+                rule: Rule::Over,
+                variable,
+                ..self.finished()
+            };
+        }
+        self.evaluate(variable, value + 1, down)
+    }
+
+    // A loop, or a rec, by the value of its bound or count. `body` bytes are the loop's commands, or the record of the rec's body.
+    #[tactic(auto, unfolding(crate::specs::Plan::plan_turn))]
+    pub fn turn(self, variable: u32, value: u32, body: usize) -> Plan
+        requires { body < 65536 }
+        ensures { result ≡ plan_turn self.levels self.at variable body value }
+    {
+        if value == 0 {
+            return Plan {
+                rule: Rule::Stop,
+                variable,
+                down: 16 + body,
+                ..self.finished()
+            };
+        }
+        Plan {
+            rule: Rule::Unroll,
+            variable,
+            value,
+            up: 20 + body,
+            ..self.finished()
+        }
     }
 }
 
-// No step.
-pub fn finished(at: usize, levels: usize) -> Plan
-    ensures { result ≡ plan levels at Finished 0 0 0 0 }
+// How many heads of 4 bytes stand one behind the other from `start`, by the test whether to go on behind a head: the blocks or let-alls
+// around a place. The test stops somewhere, and may be asked up to there.
+pub fn levels<F: Fn(usize) -> bool>(start: usize, opens: F) -> usize
+    requires { (n : ℕ) × (start + 4 * n < 2 ^ 64) × ((i : ℕ) → i ≤ n → F.pre opens (start + 4 * i)) × (F.post opens (start + 4 * n) true → ⊥) }
+    ensures all_open { (i : ℕ) → i < result → F.post opens (start + 4 * i) true }
+    ensures stops { F.post opens (start + 4 * result) false }
 {
-    make(Rule::Finished, at, levels, 0, 0, 0, 0)
-}
-
-// The 16 bytes of an assignment go, and so do those of a let-one before its last term.
-pub fn bind(at: usize, levels: usize, variable: u32, value: u32) -> Plan
-    ensures { result ≡ plan levels at Bind variable value 0 16 }
-{
-    make(Rule::Bind, at, levels, variable, value, 0, 16)
-}
-
-// `down` bytes go where an expression becomes a literal, or succ or pred the numeral.
-pub fn evaluate(at: usize, levels: usize, variable: u32, value: u32, down: usize) -> Plan
-    ensures { result ≡ plan levels at Evaluate variable value 0 down }
-{
-    make(Rule::Evaluate, at, levels, variable, value, 0, down)
-}
-
-// `down` bytes go with an empty block, or with a let-all and its tuple.
-pub fn leave(at: usize, levels: usize, down: usize) -> Plan
-    ensures { result ≡ plan levels at Leave 0 0 0 down }
-{
-    make(Rule::Leave, at, levels, 0, 0, 0, down)
-}
-
-// Plus one, or succ, of this value.
-pub fn raise(at: usize, levels: usize, variable: u32, value: u32, down: usize, largest: u32) -> Plan
-    ensures { result ≡ plan_raise levels at variable (suc value) down (up_to largest (suc value)) }
-{
-    if largest <= value {
-        return make(Rule::Over, at, levels, variable, 0, 0, 0);
+    // Kept: `take_while(..).count()` asks that the test may be asked at each number of a range, which stayed open: it may up to where it stops.
+    let mut levels = 0;
+    while opens(start + 4 * levels) {
+        levels += 1;
     }
-    evaluate(at, levels, variable, value + 1, down)
-}
-
-// A loop, or a rec, by the value of its bound or count. `body` bytes are the loop's commands, or the record of the rec's body.
-pub fn turn(at: usize, levels: usize, variable: u32, value: u32, body: usize) -> Plan
-    requires { body < 65536 }
-    ensures { result ≡ plan_turn levels at variable body value }
-{
-    if value == 0 {
-        return make(Rule::Stop, at, levels, variable, 0, 0, 16 + body);
-    }
-    make(Rule::Unroll, at, levels, variable, value, 20 + body, 0)
+    levels
 }
 
 // The outcome that a state of `used` bytes reads, first match, from the plan of its next step. What comes is added before what
 // goes is taken away: so nothing wraps.
+#[tactic(auto, unfolding(crate::specs::Plan::plan_reads))]
 pub fn outcome_of(plan: Plan, used: usize, room: usize) -> Outcome
     requires { (used ≤ 16384) × (plan.up ≤ used) × (plan.down ≤ used) }
     ensures { as_outcome result ≡ plan_reads plan plan.rule used room }
 {
-    let by_room = run::room_outcome(used + plan.up - plan.down, room);
-    let rule = plan.rule;
-    match rule {
+    match plan.rule {
         Rule::Finished => Outcome::Finished,
         Rule::Over => Outcome::Over,
-        Rule::Bind => by_room,
-        Rule::Evaluate => by_room,
-        Rule::Leave => by_room,
-        Rule::Stop => by_room,
-        Rule::Unroll => by_room,
+        _ => run::room_outcome(used + plan.up - plan.down, room),
     }
 }

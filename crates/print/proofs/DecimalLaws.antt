@@ -69,17 +69,18 @@ digits-some n = go (ltb n 10) refl
     go true e = omega (arith, digits-small n (ltb-true n 10 e))
     go false e = omega (arith, digits-large n (ltb-false n 10 e))
 
--- w + 1 digits at most below the power of 10
-digits-within : (w n : ℕ) → n < 10 ^ suc w → length (decimal n) ≤ suc w
-digits-within zero n h = omega (arith, digits-small n (omega arith))
-digits-within (suc w) n h = go (λ m k. digits-within w m k) (ltb n 10) refl
-  where
-    go : ((m : ℕ) → m < 10 ^ suc w → length (decimal m) ≤ suc w) → (b : Bool) → ltb n 10 ≡ b → length (decimal n) ≤ suc (suc w)
-    go more true e = omega (arith, digits-small n (ltb-true n 10 e))
-    go more false e =
-        let p = pow-succ' 10 (suc w) in
-        let m : length (decimal (n / 10)) ≤ suc w = more (n / 10) (omega arith) in
-        omega (arith, digits-large n (ltb-false n 10 e))
+ten-pos : (k : ℕ) → 1 ≤ 10 ^ k
+ten-pos zero = omega arith
+ten-pos (suc k) = omega (arith, ten-pos k, pow-succ' 10 k)
 
-pub digits-word : (n : ℕ) → n < 2 ^ 32 → length (decimal n) ≤ 10
-digits-word n h = digits-within 9 n (omega arith)
+-- as many as the power of 10 says that n has reached; 0 has one
+pub digits_exact : (k n : ℕ) → 10 ^ k ≤ n → n < 10 * 10 ^ k → length (decimal n) ≡ k + 1
+digits_exact zero n h j = digits-small n (omega arith)
+digits_exact (suc k) n h j =
+    let p = pow-succ' 10 k in
+    let m : length (decimal (n / 10)) ≡ k + 1 = digits_exact k (n / 10) (omega arith) (omega arith) in
+    let some = ten-pos k in
+    omega (arith, digits-large n (omega arith))
+
+pub digits_none : (n : ℕ) → n ≡ 0 → length (decimal n) ≡ 1
+digits_none n e = digits-small n (omega arith)

@@ -11,18 +11,17 @@ use moves::copy;
 use run::{Outcome, RunEnd};
 
 // The number of digits.
+#[tactic(auto, using(crate::proofs::DecimalLaws::digits_exact, crate::proofs::DecimalLaws::digits_none))]
 fn digits(n: u32) -> usize
     ensures { (result ≡ length (decimal n)) × (result ≤ 10) }
 {
-    let mut left = n;
-    let mut count = 1;
-    while 10 <= left {
-        left /= 10;
-        count += 1;
+    match n.checked_ilog10() {
+        Some(power) => power as usize + 1,
+        None => 1,
     }
-    count
 }
 
+// Kept: slice and index as two parameters, for the public contracts of put_decimal, put_spaced, put_values and put_outcome have them.
 // From the last digit to the first: the one left over by each division is the next.
 pub fn put_decimal(out: &mut [u8], at: usize, n: u32) -> usize
     requires { at + 10 ≤ length out.old }
@@ -30,13 +29,10 @@ pub fn put_decimal(out: &mut [u8], at: usize, n: u32) -> usize
 {
     let end = at + digits(n);
     let mut left = n;
-    let mut place = end - 1;
-    while 10 <= left {
-        out[place] = (48 + left % 10) as u8;
+    for place in (at..end).rev() {
+        out[place] = b'0' + (left % 10) as u8;
         left /= 10;
-        place -= 1;
     }
-    out[place] = (48 + left) as u8;
     end
 }
 
@@ -44,7 +40,7 @@ pub fn put_spaced(out: &mut [u8], at: usize, n: u32) -> usize
     requires { at + 11 ≤ length out.old }
     ensures { (out.new ≡ put out.old at (spaced n)) × (result ≡ at + length (spaced n)) × (result ≤ at + 11) }
 {
-    out[at] = 32;
+    out[at] = b' ';
     put_decimal(out, at + 1, n)
 }
 
@@ -53,10 +49,8 @@ pub fn put_values(out: &mut [u8], at: usize, store: &[u32]) -> usize
     ensures { (out.new ≡ put out.old at (spaced_all store.now)) × (result ≡ at + length (spaced_all store.now)) × (result ≤ at + 11 * length store.now) }
 {
     let mut place = at;
-    let mut i = 0;
-    while i < store.len() {
-        place = put_spaced(out, place, store[i]);
-        i += 1;
+    for value in store {
+        place = put_spaced(out, place, *value);
     }
     place
 }
@@ -97,7 +91,7 @@ pub fn put_refused(out: &mut [u8], number: u32) -> usize
     ensures { (take result out.new ≡ refused_line number) × (result ≤ 20) }
 {
     let end = put_run(out, 0, Outcome::Refused, number);
-    out[end] = 10;
+    out[end] = b'\n';
     end + 1
 }
 
@@ -106,12 +100,10 @@ pub fn put_ran(out: &mut [u8], stepper: RunEnd, reducer: RunEnd, store: &[u32]) 
     requires { 40 + 11 * length store.now ≤ length out.old }
     ensures { (take result out.new ≡ ran_line (as_run_answer stepper) (as_run_answer reducer) store.now) × (result ≤ 40 + 11 * length store.now) }
 {
-    let stepped = stepper.outcome;
-    let reduced = reducer.outcome;
-    let first = put_run(out, 0, stepped, stepper.steps);
-    out[first] = 32;
-    let second = put_run(out, first + 1, reduced, reducer.steps);
+    let first = put_run(out, 0, stepper.outcome, stepper.steps);
+    out[first] = b' ';
+    let second = put_run(out, first + 1, reducer.outcome, reducer.steps);
     let end = put_values(out, second, store);
-    out[end] = 10;
+    out[end] = b'\n';
     end + 1
 }

@@ -1,34 +1,13 @@
 -- One law for each way out of a call: what it leaves where its tests hold, and where one of them does not.
-use Prim.Native.Nat.{ℕ, ◌+◌, ◌-◌, ◌≤◌, ◌<◌}
-use mathlib.Core.Path.{◌≡◌, refl, sym}
-use mathlib.Core.Bool.{Bool, true, false, and-false}
-use native.Mathlib.Omega.{arith}
+use Prim.Native.Nat.{ℕ, ◌+◌, ◌≤◌, ◌<◌}
+use mathlib.Core.Path.{◌≡◌}
+use mathlib.Core.Bool.{true, false, and-false}
 use mathlib.Core.List.{List}
 use lib.Dec.{leb}
 use lib.ListN.{length}
-use borrow.Author.Tests.{leb-true, leb-false, le-leb, lt-leb}
+use borrow.Author.Tests.{leb-true, le-leb, lt-leb}
 use Rattle.buffer.specs.Slice.{put, part, zeros}
 use Rattle.probe.specs.Probe.{inside, changed_if, moved_down, moved_up, zeroed, copied}
-
-pub inside-le : (len at count : ℕ) → at + count ≤ len → inside len at count ≡ true
-unfolding inside
-inside-le len at count h = le-leb (at + count) len h
-
-pub inside-lt : (len at count : ℕ) → len < at + count → inside len at count ≡ false
-unfolding inside
-inside-lt len at count h = lt-leb (at + count) len h
-
--- The code's own test: with at within len, count is compared with what is left of it.
-rest-case : (len at count : ℕ) (b : Bool) → leb count (len - at) ≡ b → at ≤ len → b ≡ inside len at count
-rest-case len at count true e h =
-    let le = leb-true count (len - at) e in
-    sym (inside-le len at count (omega (arith, le)))
-rest-case len at count false e h =
-    let lt = leb-false count (len - at) e in
-    sym (inside-lt len at count (omega (arith, lt)))
-
-pub inside-rest : (len at count : ℕ) → at ≤ len → leb count (len - at) ≡ inside len at count
-inside-rest len at count h = rest-case len at count (leb count (len - at)) refl h
 
 pub le-inside : (len at count : ℕ) → inside len at count ≡ true → at + count ≤ len
 unfolding inside

@@ -6,13 +6,11 @@ ghost use Rattle.std.specs.Prelude.{◌≡◌};
 ghost use Rattle.probe.specs.Probe.{inside, moved_down, moved_up, zeroed, copied};
 
 // Whether count places from at on are within len. The difference cannot overflow, where at + count could.
+#[tactic(auto, unfolding(crate::specs::Probe::inside))]
 fn within(len: usize, at: usize, count: usize) -> bool
     ensures { result ≡ inside len at count }
 {
-    if len < at {
-        return false;
-    }
-    count <= len - at
+    len.checked_sub(at).is_some_and(|left| count <= left)
 }
 
 #[unsafe(no_mangle)]

@@ -14,7 +14,7 @@ use Rattle.record.proofs.FrontLaws.{front-take}
 use Rattle.record.proofs.ProgramReadLaws.{decode-bad, decode-front}
 use Rattle.reader.specs.declared.Head.TheVariants.{End, Record, Short}
 use Rattle.reader.specs.Head.{head_at, next_at}
-use Rattle.reader.proofs.HeadLaws.{end-tells, next-record, record-tells}
+use Rattle.reader.proofs.HeadLaws.{end-tells, next-record, not-record, record-tells}
 use Rattle.reader.proofs.SplitLaws.{record-front, short-bad}
 use Rattle.checker.specs.declared.Verdict.{Verdict}
 use Rattle.checker.specs.declared.Verdict.TheVariants.{Good, Malformed}
@@ -54,12 +54,15 @@ module _ (k largest : ℕ) (s : List ℕ) (at end : ℕ) (fits : end ≤ length 
   row-length : length (take end s) ≡ end
   row-length = length-take-le end s fits
 
-  pub row-left : at < end → head_at (take end s) at ≡ End → ⊥
+  row-left : at < end → head_at (take end s) at ≡ End → ⊥
   row-left h e = omega (arith, row-length, end-tells (take end s) at e)
 
-  pub row-short : at < end → head_at (take end s) at ≡ Short → row_verdict k largest s at end ≡ Malformed
+  row-short : at < end → head_at (take end s) at ≡ Short → row_verdict k largest s at end ≡ Malformed
   row-short h e =
       ap (block_verdict k largest) (decode-bad (between s at end) (sym (ap split (drop-take at end s)) ∙ short-bad (take end s) at (omega (arith, row-length)) e))
+
+  pub row-no_record : at < end → ((n kind : ℕ) → head_at (take end s) at ≡ Record n kind → ⊥) → row_verdict k largest s at end ≡ Malformed
+  row-no_record h none = not-record (head_at (take end s) at) none (λ e. absurd (row-left h e)) (row-short h)
 
   pub row_first : (n kind next : ℕ) → head_at (take end s) at ≡ Record n kind → next ≡ next_at (take end s) at → FirstCommand s at end next
   row_first n kind next stands goes-on =

@@ -1,7 +1,7 @@
 -- The verdict on a program's bytes, part by part.
 use Prim.Native.Nat.{ℕ, ◌≤◌}
 use mathlib.Core.Path.{ap, ap₂, refl, sym, ◌∙◌, ◌≡◌}
-use mathlib.Core.Bool.{◌&&◌, Bool, and-true, false}
+use mathlib.Core.Bool.{◌&&◌, Bool, and-true}
 use mathlib.Core.List.{◌++◌, List, [], append-nil}
 use mathlib.Core.Option.{Option, none, some}
 use lib.ListN.{drop, length}
@@ -12,7 +12,6 @@ use Rattle.rules.specs.Scope.{block_in_range, bound_in_range, expr_in_range, in_
 use Rattle.rules.specs.Store.{up_to}
 use Rattle.rules.specs.Syntax.{Block, Bound, Expr, lit}
 use Rattle.rules.proofs.LiteralsLaws.{append-literals, small_values-append}
-use Rattle.record.specs.declared.Class.{Class}
 use Rattle.record.specs.Class.{class_of}
 use Rattle.record.specs.Command.{joined, one_assign, one_loop, one_nest}
 use Rattle.record.specs.Front.{Front, u16}
@@ -25,7 +24,8 @@ use Rattle.checker.specs.Verdict.{rated, valued, verdict, worse}
 use Rattle.checker.proofs.VerdictLaws.{both-and, rated-and, worse-assoc, worse-good, worse-malformed}
 use Rattle.program_checker.specs.OpensCommand.{OpensCommand}
 use Rattle.program_checker.specs.BlockVerdict.{block_verdict, bound_rating, expr_rating}
-use Rattle.program_checker.proofs.KindLaws.{is_program, not-command}
+use Rattle.record.specs.declared.Class.TheVariants.{Program}
+use Rattle.program_checker.proofs.KindLaws.{not-command}
 
 -- WHAT THE PARTS HOLD
 
@@ -104,7 +104,7 @@ module _ (k largest : ℕ) where
   opens-none l e h d = rw (e.0, e.1) (opens-all l Malformed h (sym (ap (block_verdict k largest) d)))
 
   pub opens-class : (l : List ℕ) {v : Verdict} {n : ℕ} → (v ≡ Malformed) × (n ≡ length l) → Front l (length l)
-      → (c : Class) → class_of (u16 l 2) ≡ c → is_program c ≡ false → OpensCommand k largest l v n
-  opens-class l e f c q h =
-      let other = not-command (u16 l 2) c q h in
+      → (class_of (u16 l 2) ≡ Program → ⊥) → OpensCommand k largest l v n
+  opens-class l e f h =
+      let other = not-command (u16 l 2) h in
       opens-none l e f.least (decode-other l f (other 1 (omega arith) (omega arith)) (other 2 (omega arith) (omega arith)) (other 3 (omega arith) (omega arith)))

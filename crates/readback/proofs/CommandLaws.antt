@@ -126,6 +126,9 @@ pub record ToCount (l : List ℕ) (k to n at : ℕ) (ts : List Term) : Type 0 wh
 pub count-start : {l : List ℕ} {k to p : ℕ} {ts : List Term} → TermsUpTo l k to p ts → ToCount l k to 0 p ts
 count-start {ts = ts} h = record { terms = ts; row = h; same = omega arith }
 
+pub count-to : {l : List ℕ} {k to n at p : ℕ} {ts : List Term} → p ≡ at → ToCount l k to n at ts → ToCount l k to n p ts
+count-to e s = rw e s
+
 module _ {l : List ℕ} {k to n at : ℕ} {ts : List Term} (s : ToCount l k to n at ts) where
   pub count-end : to ≤ at → n ≡ commands_size ts
   count-end b = omega (arith, s.same, commands-end s.terms (terms-end s.row b))
@@ -140,20 +143,20 @@ module _ {l : List ℕ} {k to n at : ℕ} {ts : List Term} (s : ToCount l k to n
         let f = terms-first s.row b in
         omega (arith, is-command f.term f.here, command-short f.term, terms-order f.after)
 
-    module _ (m o : ℕ) (is-command : (u : Term) → TermAt l at k u → m ≡ own_command u) (is-size : (u : Term) → TermAt l at k u → o ≡ own_size u) where
-      pub count_next : ToCount l k to (n + m) (at + o) ts
+    module _ (m next : ℕ) (is-command : (u : Term) → TermAt l at k u → m ≡ own_command u) (is-next : (u : Term) → TermAt l at k u → next ≡ at + own_size u) where
+      pub count_next : ToCount l k to (n + m) next ts
       count_next =
           let f = terms-first s.row b in
           let e : m ≡ own_command f.term = is-command f.term f.here in
           let q : commands_size s.terms ≡ own_command f.term + commands_size (inner f.term ++ f.rest) = ap commands_size f.is ∙ commands-step f.term f.rest in
           record {
             terms = inner f.term ++ f.rest;
-            row = rw (is-size f.term f.here) f.after;
+            row = rw (is-next f.term f.here) f.after;
             same = omega (arith, s.same);
           }
 
       -- no more bytes are counted than passed
-      pub count_low : m ≤ o
+      pub count_low : at + m ≤ next
       count_low =
           let f = terms-first s.row b in
-          omega (arith, is-command f.term f.here, is-size f.term f.here, command-short f.term)
+          omega (arith, is-command f.term f.here, is-next f.term f.here, command-short f.term)

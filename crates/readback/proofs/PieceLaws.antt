@@ -51,11 +51,11 @@ loop-bytes x n b r = encode_block-loop x n b r ∙ rw (encode_block-nest b r) (s
 -- A LET-ONE: its own bytes end with its atom's number
 
 module _ {l : List ℕ} {p k : ℕ} (x : ℕ) (e : Expr) (r : Block) (h : TermAt l p k (translate k (assign x e r))) where
-  pub let_one-room : (p + own_size (translate k (assign x e r)) ≤ length l) × (16 ≤ own_size (translate k (assign x e r))) × (32 ≤ val (part l (p + 10) 2))
+  pub let_one-room : (p + own_size (translate k (assign x e r)) ≤ length l) × (16 ≤ own_size (translate k (assign x e r))) × (32 ≤ val (part l (p + 10) 2)) × (val (part l (p + 10) 2) ≤ 35)
   unfolding translate own_size let_one-view
   let_one-room =
       let v = let_one-view x (simple_of e) (translate k r) h in
-      (omega (arith, term-room v.last-at), omega (arith, simple-least (simple_of e)), omega (arith, v.kind-read, kind-simple_of e, expr_kind-range e))
+      (omega (arith, term-room v.last-at), omega (arith, simple-least (simple_of e)), omega (arith, v.kind-read, kind-simple_of e, expr_kind-range e), omega (arith, v.kind-read, kind-simple_of e, expr_kind-range e))
 
   pub let_one-bytes : (y kind v q : ℕ) → y ≡ val (part l (p + 4) 4) → kind ≡ val (part l (p + 10) 2) - 16 → q + 4 ≡ p + own_size (translate k (assign x e r)) → v ≡ val (part l q 4)
       → lead 2 16 y kind v ≡ assign_bytes x e
@@ -70,11 +70,11 @@ module _ {l : List ℕ} {p k : ℕ} (x : ℕ) (e : Expr) (r : Block) (h : TermAt
 -- A REC
 
 module _ {l : List ℕ} {p k : ℕ} (x : ℕ) (n : Bound) (b : Block) (h : TermAt l p k (rec x (atom_of n) (all k) (translate k b))) where
-  pub rec-room : (p + 20 ≤ length l) × (32 ≤ val (part l (p + 10) 2))
+  pub rec-room : (p + 20 ≤ length l) × (32 ≤ val (part l (p + 10) 2)) × (val (part l (p + 10) 2) ≤ 35)
   unfolding rec-view
   rec-room =
       let v = rec-view x (atom_of n) (all k) (translate k b) h in
-      (omega (arith, v.room, v.size), omega (arith, v.kind-read, kind-atom_of n, bound_kind-range n))
+      (omega (arith, v.room, v.size), omega (arith, v.kind-read, kind-atom_of n, bound_kind-range n), omega (arith, v.kind-read, kind-atom_of n, bound_kind-range n))
 
   pub rec-bytes : (y kind v i j : ℕ) → y ≡ val (part l (p + 4) 4) → kind ≡ val (part l (p + 10) 2) - 16 → v ≡ val (part l (p + 12) 4)
       → lead 3 i y kind v ++ record_head 1 j ≡ loop_bytes x n i j

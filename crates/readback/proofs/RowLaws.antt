@@ -1,5 +1,5 @@
 -- What stands where a scan meets the translation of a block, by the block's first command.
-use Prim.Native.Nat.{◌*◌, ◌+◌, ◌≤◌, ℕ}
+use Prim.Native.Nat.{◌+◌, ◌≤◌, ℕ}
 use mathlib.Core.Path.{ap, ◌≡◌}
 use mathlib.Core.List.{List, [], ◌∷◌}
 use native.Mathlib.Omega.{arith}
@@ -14,7 +14,7 @@ use Rattle.place.proofs.ProgramBytesLaws.{block_size-assign, block_size-empty, b
 use Rattle.place.proofs.TermBytesLaws.{simple-least, term_size-let_all, term_size-let_one, term_size-rec}
 use Rattle.place.proofs.TermViewLaws.{let_all-view, let_one-view, rec-view, tuple-view}
 use Rattle.recognition.specs.Scan.{TermsUpTo, ended, followed, inner, own_size}
-use Rattle.recognition.proofs.ScanLaws.{own-let_all, own-rec, own-tuple, terms-index, terms-step}
+use Rattle.recognition.proofs.ScanLaws.{own-let_all, terms-index, terms-step}
 
 -- a block has no more bytes than its translation
 translate-short : (k : ℕ) (b : Block) → block_size b ≤ term_size (translate k b)
@@ -39,36 +39,38 @@ no-rec {k = k} (loop x n b r) q h e = omega (arith, (let_all-view (rec x (atom_o
 no-rec {k = k} (nest b r) q h e = omega (arith, (let_all-view (translate k b) (translate k r) h).kind)
 
 module _ {l : List ℕ} {k to p : ℕ} {ts : List Term} where
-  pub row-empty : TermsUpTo l k to p (translate k empty ∷ ts) → (val (part l (p + 2) 2) ≡ 36) × TermsUpTo l k to (p + (4 + 8 * k)) ts
+  pub row-empty : TermsUpTo l k to p (translate k empty ∷ ts)
+      → (val (part l (p + 2) 2) ≡ 36) × TermAt l p k (translate k empty) × TermsUpTo l k to (p + own_size (translate k empty)) ts
   unfolding translate inner
-  row-empty h =
-      let s = terms-step h in
-      let kind = (tuple-view (all k) s.0).kind in
-      (kind, terms-index s.1 (ap (λ (y : ℕ). p + y) (own-tuple s.0 kind)))
+  row-empty h = let s = terms-step h in ((tuple-view (all k) s.0).kind, s.0, s.1)
 
   pub row-assign : (x : ℕ) (e : Expr) (r : Block) → TermsUpTo l k to p (translate k (assign x e r) ∷ ts)
       → (val (part l (p + 2) 2) ≡ 37) × TermAt l p k (translate k (assign x e r)) × TermsUpTo l k to (p + own_size (translate k (assign x e r))) (translate k r ∷ ts)
   unfolding translate inner
   row-assign x e r h = let s = terms-step h in ((let_one-view x (simple_of e) (translate k r) s.0).kind, s.0, s.1)
 
+  -- of a loop the let-all and the rec in it
   pub row-loop : (x : ℕ) (n : Bound) (b r : Block) → TermsUpTo l k to p (translate k (loop x n b r) ∷ ts)
-      → (val (part l (p + 2) 2) ≡ 38) × (val (part l (p + 6) 2) ≡ 39) × TermAt l (p + 4) k (rec x (atom_of n) (all k) (translate k b))
-      × TermsUpTo l k to (p + (24 + 8 * k)) (translate k b ∷ translate k r ∷ ts)
+      → (val (part l (p + 2) 2) ≡ 38) × (val (part l (p + 6) 2) ≡ 39) × TermAt l p k (translate k (loop x n b r)) × (own_size (translate k (loop x n b r)) ≡ 4)
+      × TermAt l (p + 4) k (rec x (atom_of n) (all k) (translate k b))
+      × TermsUpTo l k to (p + 4 + own_size (rec x (atom_of n) (all k) (translate k b))) (translate k b ∷ translate k r ∷ ts)
   unfolding translate inner
   row-loop x n b r h =
       let s = terms-step h in
       let kind = (let_all-view (rec x (atom_of n) (all k) (translate k b)) (translate k r) s.0).kind in
-      let t = terms-step (terms-index s.1 (ap (λ (y : ℕ). p + y) (own-let_all s.0 kind))) in
+      let four = own-let_all s.0 kind in
+      let t = terms-step (terms-index s.1 (ap (λ (y : ℕ). p + y) four)) in
       let first = (rec-view x (atom_of n) (all k) (translate k b) t.0).kind in
       let six : p + 4 + 2 ≡ p + 6 = omega arith in
-      (kind, rw six at first, t.0, terms-index t.1 (omega (arith, own-rec t.0 first)))
+      (kind, rw six at first, s.0, four, t.0, t.1)
 
   pub row-nest : (b r : Block) → TermsUpTo l k to p (translate k (nest b r) ∷ ts)
-      → (val (part l (p + 2) 2) ≡ 38) × (val (part l (p + 6) 2) ≡ 39 → ⊥) × TermsUpTo l k to (p + 4) (translate k b ∷ translate k r ∷ ts)
+      → (val (part l (p + 2) 2) ≡ 38) × (val (part l (p + 6) 2) ≡ 39 → ⊥) × TermAt l p k (translate k (nest b r))
+      × TermsUpTo l k to (p + own_size (translate k (nest b r))) (translate k b ∷ translate k r ∷ ts)
   unfolding translate inner
   row-nest b r h =
       let s = terms-step h in
       let kind = (let_all-view (translate k b) (translate k r) s.0).kind in
       let t = terms-index s.1 (ap (λ (y : ℕ). p + y) (own-let_all s.0 kind)) in
       let six : p + 6 ≡ p + 4 + 2 = omega arith in
-      (kind, (λ e. no-rec b (p + 4) (terms-step t).0 (rw six at e)), t)
+      (kind, (λ e. no-rec b (p + 4) (terms-step t).0 (rw six at e)), s.0, s.1)

@@ -1,6 +1,6 @@
 -- The loop that writes the commands: what it meets, by the kinds read, and what is left to do after each turn; and the whole
 -- record.
-use Prim.Native.Nat.{◌*◌, ◌+◌, ◌-◌, ◌<◌, ◌≤◌, ℕ}
+use Prim.Native.Nat.{◌+◌, ◌-◌, ◌<◌, ◌≤◌, ℕ}
 use mathlib.Core.Path.{ap, refl, subst, sym, ◌∙◌, ◌≡◌}
 use mathlib.Core.Bool.{false, true}
 use mathlib.Core.Option.{some-injective, some}
@@ -33,10 +33,10 @@ use Rattle.record.proofs.ProgramLaws.{length-encode_block}
 use Rattle.rules.proofs.ReadBackLaws.{translate-read_back}
 use Rattle.readback.specs.OpenRecords.{BlockFits, Linked, OpenRecords, all_ended, assign_bytes, closed, end_of, finish, loop_bytes, opened, terms_of}
 use Rattle.recognition.specs.Scan.{TermsUpTo, own_size}
-use Rattle.recognition.proofs.ScanLaws.{kind-room, terms-first, terms-none, terms-order, terms-record, terms-some}
+use Rattle.recognition.proofs.ScanLaws.{kind-room, own-some, terms-first, terms-none, terms-order, terms-record, terms-some}
 use Rattle.readback.proofs.CommandLaws.{first-room}
 use Rattle.readback.proofs.OpenRecordsLaws.{closes-loop, closes-nest, end-close, end_more, end-open, end-room, finish-close, finish-more, finish-open, linked-behind, linked-close, linked-loop, linked-nest, opening-loop, opening-least, put-again}
-use Rattle.readback.proofs.PieceLaws.{assign-bytes, length-assign_bytes, length-loop_bytes, let_one-room, loop-bytes}
+use Rattle.readback.proofs.PieceLaws.{assign-bytes, length-assign_bytes, length-loop_bytes, loop-bytes}
 use Rattle.readback.proofs.RowLaws.{block-end, row-assign, row-empty, row-loop, row-nest}
 
 -- When the loop comes to index `at` of the source l and writes at index o of the output b, and the innermost head is at index p,
@@ -52,11 +52,14 @@ pub record ToWrite (l : List ℕ) (k to at : ℕ) (b : List ℕ) (o p : ℕ) (m 
 
 -- WHAT A TURN DOES
 
+-- The iterator steps from index p over the term there and stands at index q.
+abbrev pub Steps : List ℕ → ℕ → ℕ → ℕ → Type 0
+Steps l k p q = (u : Term) → TermAt l p k u → q ≡ p + own_size u
+
 -- A tuple ends the innermost record.
 pub record Closes (l : List ℕ) (k to at : ℕ) (b : List ℕ) (o p : ℕ) (m : List ℕ) (e : ℕ) : Type 0 where
   pub room : (p + 4 ≤ o) × (val (part b (p + 2) 2) ≡ 3 → p + 20 ≤ o) × (o ≤ length b)
-  pub pass : at + (4 + 8 * k) ≤ to
-  pub next : (b₁ : List ℕ) (q : ℕ) → b₁ ≡ closed (eqb (val (part b (p + 2) 2)) 3) b p o → q ≡ val (part b p 2) → length b₁ ≡ length b → ToWrite l k to (at + (4 + 8 * k)) b₁ o q m e
+  pub next : (b₁ : List ℕ) (q a : ℕ) → b₁ ≡ closed (eqb (val (part b (p + 2) 2)) 3) b p o → q ≡ val (part b p 2) → length b₁ ≡ length b → Steps l k at a → ToWrite l k to a b₁ o q m e
 
 -- A let-one is an assignment.
 pub record Assigns (l : List ℕ) (k to at : ℕ) (b : List ℕ) (o p : ℕ) (m : List ℕ) (e : ℕ) : Type 0 where
@@ -65,8 +68,7 @@ pub record Assigns (l : List ℕ) (k to at : ℕ) (b : List ℕ) (o p : ℕ) (m 
   pub rest : Block
   pub here : TermAt l at k (translate k (assign variable expr rest))
   pub room : o + 16 ≤ length b
-  pub pass : (at < at + own_size (translate k (assign variable expr rest))) × (at + own_size (translate k (assign variable expr rest)) ≤ to)
-  pub next : (b₁ : List ℕ) (q : ℕ) → b₁ ≡ put b o (assign_bytes variable expr) → q ≡ at + own_size (translate k (assign variable expr rest)) → length b₁ ≡ length b → ToWrite l k to q b₁ (o + 16) p m e
+  pub next : (b₁ : List ℕ) (a : ℕ) → b₁ ≡ put b o (assign_bytes variable expr) → length b₁ ≡ length b → Steps l k at a → ToWrite l k to a b₁ (o + 16) p m e
 
 -- A let-all of a rec begins a loop.
 pub record Loops (l : List ℕ) (k to at : ℕ) (b : List ℕ) (o p : ℕ) (m : List ℕ) (e : ℕ) : Type 0 where
@@ -75,14 +77,17 @@ pub record Loops (l : List ℕ) (k to at : ℕ) (b : List ℕ) (o p : ℕ) (m : 
   pub body : Block
   pub here : TermAt l (at + 4) k (rec variable (atom_of bound) (all k) (translate k body))
   pub room : o + 20 ≤ length b
-  pub pass : at + (24 + 8 * k) ≤ to
-  pub next : (b₁ : List ℕ) (q : ℕ) → b₁ ≡ put b o (loop_bytes variable bound p 0) → q ≡ at + (24 + 8 * k) → length b₁ ≡ length b → ToWrite l k to q b₁ (o + 20) o m e
+  pub inside : (a : ℕ) → Steps l k at a → (a ≡ at + 4) × (a < to)
+  pub further : (a c : ℕ) → Steps l k at a → Steps l k a c → at < c
+  pub next : (b₁ : List ℕ) (a c : ℕ) → b₁ ≡ put b o (loop_bytes variable bound p 0) → length b₁ ≡ length b → Steps l k at a → Steps l k a c → ToWrite l k to c b₁ (o + 20) o m e
 
 -- Every other let-all begins a block.
 pub record Nests (l : List ℕ) (k to at : ℕ) (b : List ℕ) (o p : ℕ) (m : List ℕ) (e : ℕ) : Type 0 where
   pub room : o + 4 ≤ length b
-  pub pass : at + 4 ≤ to
-  pub next : (b₁ : List ℕ) → b₁ ≡ put b o (record_head 1 p) → length b₁ ≡ length b → ToWrite l k to (at + 4) b₁ (o + 4) o m e
+  pub next : (b₁ : List ℕ) (a : ℕ) → b₁ ≡ put b o (record_head 1 p) → length b₁ ≡ length b → Steps l k at a → ToWrite l k to a b₁ (o + 4) o m e
+
+pub write-to : {l : List ℕ} {k to at q : ℕ} {b : List ℕ} {o p : ℕ} {m : List ℕ} {e : ℕ} → q ≡ at → ToWrite l k to at b o p m e → ToWrite l k to q b o p m e
+write-to d s = rw d s
 
 module _ {l : List ℕ} {k to at : ℕ} {b : List ℕ} {o p : ℕ} {m : List ℕ} {e : ℕ} (s : ToWrite l k to at b o p m e) where
   pub write-end : to ≤ at → (b ≡ m) × (o ≡ e)
@@ -115,10 +120,9 @@ module _ {l : List ℕ} {k to at : ℕ} {b : List ℕ} {o p : ℕ} {m : List ℕ
             let f-is : eqb (val (part b (p + 2) 2)) 3 ≡ f = rw linked.0 linked.2 in
             record {
               room = (omega (arith, linked.0, linked.1, opening-least f), (λ z. omega (arith, linked.0, linked.1, opening-loop (val (part b (p + 2) 2)) f f-is z)), omega arith);
-              pass = terms-order r.1;
-              next = λ b₁ q eb eq n₁. record {
+              next = λ b₁ q a eb eq n₁ ea. record {
                 opens = ps;
-                row = r.1;
+                row = rw (ea (translate k empty) r.1) r.2;
                 linked = rw (eb, eq, f-is, linked.0) (linked-close ps b o h f linked.1 (omega arith) linked.3);
                 same = rw (eb, f-is, linked.0) (sym (finish-close b o h f ps) ∙ same);
                 ends = sym (end-close o h f ps) ∙ ends;
@@ -148,10 +152,9 @@ module _ {l : List ℕ} {k to at : ℕ} {b : List ℕ} {o p : ℕ} {m : List ℕ
               rest = r;
               here = t.1;
               room = omega arith;
-              pass = (omega (arith, let_one-room x c r t.1), terms-order t.2);
-              next = λ b₁ q eb eq n₁. record {
+              next = λ b₁ a eb n₁ ea. record {
                 opens = opened h f r ps;
-                row = rw eq t.2;
+                row = rw (ea (translate k (assign x c r)) t.1) t.2;
                 linked = subst (λ (y : List ℕ). Linked y (o + 16) p (opened h f r ps)) (sym eb) (linked-behind (opened h f r ps) b (assign_bytes x c) o (o + 16) p (omega arith) (omega arith) linked);
                 same = rw eb (sym (finish-more b (assign_bytes x c) o (o + 16) h f (assign x c r) r ps (assign-bytes x c r) n (omega arith)) ∙ same);
                 ends = sym (end_more o 16 h f (assign x c r) r ps size) ∙ ends;
@@ -193,18 +196,23 @@ module _ {l : List ℕ} {k to at : ℕ} {b : List ℕ} {o p : ℕ} {m : List ℕ
                 variable = x;
                 bound = n;
                 body = c;
-                here = t.2;
+                here = t.4;
                 room = omega arith;
-                pass = terms-order t.3;
-                next = λ b₁ q eb eq n₁. record {
-                  opens = opened o true c (opened h f r ps);
-                  row = rw eq t.3;
-                  linked = subst (λ (y : List ℕ). Linked y (o + 20) o (opened o true c (opened h f r ps))) (sym eb) (linked-loop (opened h f r ps) b o p x n c (omega arith) (omega (arith, linked.0, linked.1)) linked);
-                  same = rw eb (sym (finish-open b (loop_bytes x n (20 + block_size c) (4 + block_size c)) (loop_bytes x n p 0) o (o + 20) h f true (loop x n c r) c r ps (loop-bytes x n c r) closes (ap (λ (y : ℕ). o + y) (length-loop_bytes x n (20 + block_size c) (4 + block_size c))) (omega arith)) ∙ same);
-                  ends = sym (end-open o 20 h f true (loop x n c r) c r ps size) ∙ ends;
-                  fits = omega arith;
-                  small = s.small;
-                };
+                inside = λ a ea. let four : a ≡ at + 4 = ea (translate k (loop x n c r)) t.2 ∙ ap (λ (y : ℕ). at + y) t.3 in (four, omega (arith, own-some (rec x (atom_of n) (all k) (translate k c)), terms-order t.5));
+                further = λ a d ea ed.
+                    let four : a ≡ at + 4 = ea (translate k (loop x n c r)) t.2 ∙ ap (λ (y : ℕ). at + y) t.3 in
+                    omega (arith, ed (rec x (atom_of n) (all k) (translate k c)) (rw four t.4));
+                next = λ b₁ a d eb n₁ ea ed.
+                    let four : a ≡ at + 4 = ea (translate k (loop x n c r)) t.2 ∙ ap (λ (y : ℕ). at + y) t.3 in
+                    record {
+                      opens = opened o true c (opened h f r ps);
+                      row = rw (ed (rec x (atom_of n) (all k) (translate k c)) (rw four t.4), four) t.5;
+                      linked = subst (λ (y : List ℕ). Linked y (o + 20) o (opened o true c (opened h f r ps))) (sym eb) (linked-loop (opened h f r ps) b o p x n c (omega arith) (omega (arith, linked.0, linked.1)) linked);
+                      same = rw eb (sym (finish-open b (loop_bytes x n (20 + block_size c) (4 + block_size c)) (loop_bytes x n p 0) o (o + 20) h f true (loop x n c r) c r ps (loop-bytes x n c r) closes (ap (λ (y : ℕ). o + y) (length-loop_bytes x n (20 + block_size c) (4 + block_size c))) (omega arith)) ∙ same);
+                      ends = sym (end-open o 20 h f true (loop x n c r) c r ps size) ∙ ends;
+                      fits = omega arith;
+                      small = s.small;
+                    };
               }
           go (opened h f empty ps) row linked same ends = absurd (no-tuple (row-empty row).0)
           go (opened h f (assign x c r) ps) row linked same ends = absurd (no_one (row-assign x c r row).0)
@@ -225,10 +233,9 @@ module _ {l : List ℕ} {k to at : ℕ} {b : List ℕ} {o p : ℕ} {m : List ℕ
               let closes = closes-nest b (encode_block c) o (o + 4) (o + 4 + block_size c) p (block_size c) (sym (length-encode_block c)) refl refl (omega arith) in
               record {
                 room = omega arith;
-                pass = terms-order t.2;
-                next = λ b₁ eb n₁. record {
+                next = λ b₁ a eb n₁ ea. record {
                   opens = opened o false c (opened h f r ps);
-                  row = t.2;
+                  row = rw (ea (translate k (nest c r)) t.2) t.3;
                   linked = subst (λ (y : List ℕ). Linked y (o + 4) o (opened o false c (opened h f r ps))) (sym eb) (linked-nest (opened h f r ps) b o p c (omega arith) (omega (arith, linked.0, linked.1)) linked);
                   same = rw eb (sym (finish-open b (record_head 1 (4 + block_size c)) (record_head 1 p) o (o + 4) h f false (nest c r) c r ps (encode_block-nest c r) closes (ap (λ (y : ℕ). o + y) (length-record_head 1 (4 + block_size c))) (omega arith)) ∙ same);
                   ends = sym (end-open o 4 h f false (nest c r) c r ps size) ∙ ends;

@@ -21,8 +21,8 @@ ghost use Rattle.readback.specs.CommandSize.{commands_size, own_command};
 ghost use Rattle.readback.specs.OpenRecords.{BlockFits, assign_bytes, closed, loop_bytes};
 
 use edit::{put_head, put_header, put_lead};
-use recognition::own_size;
-use record::kind::{ASSIGNMENT, BLOCK, LET_ALL, LET_ONE, LOOP, REC, TUPLE};
+use recognition::{Terms, own_size};
+use record::kind::Kind;
 use record::{Header, Sort};
 
 // The bytes of commands that come of a term's own bytes. A let-all of a rec has none: the rec stands for the whole loop.
@@ -30,20 +30,15 @@ fn own_command_size(src: &[u8], at: usize) -> usize
     requires { (k : ℕ) × (t : Term) × TermAt src.now at k t }
     ensures { (k : ℕ) (t : Term) → TermAt src.now at k t → result ≡ own_command t }
 {
-    let kind = buffer::get_u16(src, at + 2);
-    if kind == TUPLE {
-        return 0;
+    match Kind::read(src, at + 2) {
+        Kind::Tuple => 0,
+        Kind::LetOne => 16,
+        Kind::LetAll => match Kind::read(src, at + 6) {
+            Kind::Rec => 0,
+            _ => 4,
+        },
+        _ => 20,
     }
-    if kind == LET_ONE {
-        return 16;
-    }
-    if kind == LET_ALL {
-        if buffer::get_u16(src, at + 6) == REC {
-            return 0;
-        }
-        return 4;
-    }
-    20
 }
 
 // The bytes of all commands of the terms between two places.
@@ -53,10 +48,8 @@ fn commands_size(src: &[u8], from: usize, to: usize, k: u32) -> usize
     ensures low { from + result ≤ to }
 {
     let mut n = 0;
-    let mut at = from;
-    while at < to {
+    for at in Terms::between(src, from, to, k) {
         n += own_command_size(src, at);
-        at += own_size(src, at, k);
     }
     n
 }
@@ -77,27 +70,25 @@ fn close(out: &mut [u8], head: usize, o: usize) -> usize
     ensures { (out.new ≡ closed (eqb (val (part out.old (head + 2) 2)) 3) out.old head o) × (result ≡ val (part out.old head 2)) }
 {
     let outer = buffer::get_u16(out, head);
-    let kind = buffer::get_u16(out, head + 2);
+    let kind = Kind::read(out, head + 2);
     let n = o - head;
     buffer::put_u16(out, head, n);
-    if kind == LOOP {
+    if let Kind::Loop = kind {
         buffer::put_u16(out, head + 16, n - 16);
     }
     outer
 }
 
-// Writes the assignment of the let-one at `at`, and gives where its last term stands.
-fn write_let_one(src: &[u8], at: usize, k: u32, out: &mut [u8], o: usize) -> usize
+// Writes the assignment of the let-one at `at`.
+fn write_let_one(src: &[u8], at: usize, k: u32, out: &mut [u8], o: usize)
     requires { ((x : ℕ) × (e : Expr) × (r : Block) × TermAt src.now at k (translate k (assign x e r))) × (o + 16 ≤ length out.old) }
-    ensures { (x : ℕ) (e : Expr) (r : Block) → TermAt src.now at k (translate k (assign x e r)) → (out.new ≡ put out.old o (assign_bytes x e)) × (result ≡ at + own_size (translate k (assign x e r))) }
+    ensures { (x : ℕ) (e : Expr) (r : Block) → TermAt src.now at k (translate k (assign x e r)) → out.new ≡ put out.old o (assign_bytes x e) }
 {
     let x = buffer::get_u32(src, at + 4);
-    let kind = buffer::get_u16(src, at + 10) - 16;
-    let next = at + own_size(src, at, k);
+    let kind = Kind::read_atom(src, at + 10).in_program();
     // A let-one's own bytes end with the number of its atom.
-    let v = buffer::get_u32(src, next - 4);
-    put_lead(out, o, ASSIGNMENT, 16, x, kind, v);
-    next
+    let v = buffer::get_u32(src, at + own_size(src, at, k) - 4);
+    put_lead(out, o, Kind::Assignment, 16, x, kind, v);
 }
 
 // Begins the loop of the rec at `at`, inside the record with its head at `head`.
@@ -106,10 +97,10 @@ fn open_loop(src: &[u8], at: usize, out: &mut [u8], o: usize, head: usize)
     ensures { (k x : ℕ) (n : Bound) (b : Block) → TermAt src.now at k (rec x (atom_of n) (all k) (translate k b)) → out.new ≡ put out.old o (loop_bytes x n head 0) }
 {
     let x = buffer::get_u32(src, at + 4);
-    let bound = buffer::get_u16(src, at + 10) - 16;
+    let bound = Kind::read_atom(src, at + 10).in_program();
     let v = buffer::get_u32(src, at + 12);
-    put_lead(out, o, LOOP, head, x, bound, v);
-    put_head(out, o + 16, BLOCK, 0);
+    put_lead(out, o, Kind::Loop, head, x, bound, v);
+    put_head(out, o + 16, Kind::Block, 0);
 }
 
 // The block of the term that starts at `start` and ends at `to`, written from `start` on; gives where it ends. The length of a
@@ -118,29 +109,31 @@ fn write_block(src: &[u8], start: usize, to: usize, k: u32, out: &mut [u8]) -> u
     requires { ((b : Block) × BlockFits src.now start to k out.old b) × (to ≤ length src.now) × (to < 65536) }
     ensures { (b : Block) → BlockFits src.now start to k out.old b → (out.new ≡ put out.old start (record_head 1 (4 + block_size b) ++ encode_block b)) × (result ≡ start + (4 + block_size b)) }
 {
-    let tuple = 4 + 8 * k as usize;
-    let mut at = start;
     let mut head = start;
     let mut o = start + 4;
-    put_head(out, start, BLOCK, 0);
-    while at < to {
-        let kind = buffer::get_u16(src, at + 2);
-        if kind == TUPLE {
-            head = close(out, head, o);
-            at += tuple;
-        } else if kind == LET_ONE {
-            at = write_let_one(src, at, k, out, o);
-            o += 16;
-        } else if buffer::get_u16(src, at + 6) == REC {
-            open_loop(src, at + 4, out, o, head);
-            head = o;
-            o += 20;
-            at += 20 + tuple;
-        } else {
-            put_head(out, o, BLOCK, head);
-            head = o;
-            o += 4;
-            at += 4;
+    put_head(out, start, Kind::Block, 0);
+    let mut terms = Terms::between(src, start, to, k);
+    while let Some(at) = terms.next() {
+        match Kind::read(src, at + 2) {
+            Kind::Tuple => head = close(out, head, o),
+            Kind::LetOne => {
+                write_let_one(src, at, k, out, o);
+                o += 16;
+            }
+            _ => match Kind::read(src, at + 6) {
+                Kind::Rec => {
+                    // The rec is written with its let-all, and so passed here.
+                    terms.next();
+                    open_loop(src, at + 4, out, o, head);
+                    head = o;
+                    o += 20;
+                }
+                _ => {
+                    put_head(out, o, Kind::Block, head);
+                    head = o;
+                    o += 4;
+                }
+            },
         }
     }
     o

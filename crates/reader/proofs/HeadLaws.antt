@@ -18,6 +18,12 @@ pub record Whole (l : List ℕ) (at n k : ℕ) : Type 0 where
   pub is-length : length_at l at ≡ n
   pub is-kind : kind_at l at ≡ k
 
+-- Where no record stands nothing is left, or no whole record.
+pub not-record : {P : Type 0} (h : Head) → ((n k : ℕ) → h ≡ Record n k → ⊥) → (h ≡ End → P) → (h ≡ Short → P) → P
+not-record (Record n k) none f g = absurd (none n k refl)
+not-record End none f g = f refl
+not-record Short none f g = g refl
+
 module _ (l : List ℕ) (at : ℕ) where
   -- WHAT CODE FOUND
 
@@ -100,3 +106,6 @@ module _ (l : List ℕ) (at : ℕ) where
   pub next-short : head_at l at ≡ Short → next_at l at ≡ at
   unfolding length_of
   next-short e = next-is Short e ∙ omega arith
+
+  pub next-none : ((n k : ℕ) → head_at l at ≡ Record n k → ⊥) → next_at l at ≡ at
+  next-none none = not-record (head_at l at) none next-end next-short

@@ -16,7 +16,7 @@ use Rattle.reader.specs.Head.{head_at, kind_at, length_at}
 use Rattle.reader.specs.SplitHead.{split_head}
 use Rattle.reader.specs.declared.Head.{Head}
 use Rattle.reader.specs.declared.Head.TheVariants.{End, Record, Short}
-use Rattle.reader.proofs.HeadLaws.{Whole, end-tells, record-tells, short-tells}
+use Rattle.reader.proofs.HeadLaws.{Whole, end-tells, not-record, record-tells, short-tells}
 
 module _ (l : List ℕ) (at : ℕ) where
   left-length : u16 (drop at l) 0 ≡ length_at l at
@@ -84,8 +84,11 @@ module _ (l : List ℕ) (at : ℕ) where
         let len = length-drop at l in
         is_only-no kind (drop at l) (λ f. h (omega (arith, f.least, f.stored)) (omega (arith, f.least, f.stored)))
 
-    pub only_end : head_at l at ≡ End → is_only kind (drop at l) ≡ false
+    only_end : head_at l at ≡ End → is_only kind (drop at l) ≡ false
     only_end e = no-only (λ least inside. omega (arith, least, inside, end-tells l at e))
 
-    pub only-short : head_at l at ≡ Short → is_only kind (drop at l) ≡ false
+    only-short : head_at l at ≡ Short → is_only kind (drop at l) ≡ false
     only-short e = no-only (short-tells l at e)
+
+    pub only-none : ((n k : ℕ) → head_at l at ≡ Record n k → ⊥) → is_only kind (drop at l) ≡ false
+    only-none none = not-record (head_at l at) none only_end only-short

@@ -1,12 +1,14 @@
-// The record reader (01 "Records"): the lent bytes and how far it has come. A struct that holds a reference is proved by
-// hand, so its functions are thin: below them stand ones on the bytes and a place (`read_head`, `skip`), and above them ones that
-// make a reader at a place and ask it (`head_at`, `after`), so that a caller sees neither.
+// The record reader (01 "Records"): the lent bytes and how far it has come. A caller that reads at one place asks `head_at` and `after`, which
+// make a reader there, and sees none.
 #![tactic(auto)]
 
 ghost use Rattle.std.specs.Prelude.{◌≡◌, drop};
 ghost use Rattle.record.specs.Front.{is_only};
+ghost use Rattle.record.specs.Kind.{kind_number};
 ghost use Rattle.reader.specs.Head.{head_at, next_at};
 ghost use Rattle.reader.specs.Readers.{onward_of, reader_at};
+
+use record::kind::Kind;
 
 #[derive(Clone, Copy)]
 pub struct Reader<'a> {
@@ -48,36 +50,36 @@ fn skip(bytes: &[u8], at: usize) -> usize
 {
     match read_head(bytes, at) {
         Head::Record(length, _) => at + length,
-        Head::End => at,
-        Head::Short => at,
+        _ => at,
     }
 }
 
-pub fn reader_at<'a>(bytes: &'a [u8], at: usize) -> Reader<'a>
-    ensures { result ≡ reader_at bytes.entry at }
-{
-    Reader { bytes, place: at }
-}
+impl<'a> Reader<'a> {
+    pub fn at(bytes: &'a [u8], place: usize) -> Reader<'a>
+        ensures { result ≡ reader_at bytes.entry place }
+    {
+        Reader { bytes, place }
+    }
 
-pub fn place<'a>(r: Reader<'a>) -> usize
-    ensures { result ≡ r.entry.place }
-{
-    r.place
-}
+    pub fn place(self) -> usize
+        ensures { result ≡ self.entry.place }
+    {
+        self.place
+    }
 
-pub fn header<'a>(r: Reader<'a>) -> Head
-    ensures { result ≡ head_at r.entry.bytes.now r.entry.place }
-{
-    read_head(r.bytes, r.place)
-}
+    pub fn header(self) -> Head
+        ensures { result ≡ head_at self.entry.bytes.now self.entry.place }
+    {
+        read_head(self.bytes, self.place)
+    }
 
-pub fn onward<'a>(r: Reader<'a>) -> Reader<'a>
-    ensures { result ≡ onward_of r.entry }
-{
-    let n = skip(r.bytes, r.place);
-    Reader {
-        bytes: r.bytes,
-        place: n,
+    pub fn onward(self) -> Reader<'a>
+        ensures { result ≡ onward_of self.entry }
+    {
+        Reader {
+            bytes: self.bytes,
+            place: skip(self.bytes, self.place),
+        }
     }
 }
 
@@ -85,29 +87,22 @@ pub fn onward<'a>(r: Reader<'a>) -> Reader<'a>
 pub fn head_at(bytes: &[u8], at: usize) -> Head
     ensures { result ≡ head_at bytes.now at }
 {
-    header(reader_at(bytes, at))
+    Reader::at(bytes, at).header()
 }
 
 // How far a reader comes that goes on from a place: past the record there, or no further where none is.
 pub fn after(bytes: &[u8], at: usize) -> usize
     ensures { result ≡ next_at bytes.now at }
 {
-    place(onward(reader_at(bytes, at)))
+    Reader::at(bytes, at).onward().place()
 }
 
 // Whether one record of this kind stands at a place, and nothing after it.
-pub fn only_at(bytes: &[u8], at: usize, kind: usize) -> bool
-    ensures { result ≡ is_only kind (drop at bytes.now) }
+pub fn only_at(bytes: &[u8], at: usize, kind: Kind) -> bool
+    ensures { result ≡ is_only (kind_number kind) (drop at bytes.now) }
 {
-    match head_at(bytes, at) {
-        Head::Record(length, found) => {
-            if length == bytes.len() - at {
-                found == kind
-            } else {
-                false
-            }
-        }
-        Head::End => false,
-        Head::Short => false,
-    }
+    let Head::Record(length, found) = head_at(bytes, at) else {
+        return false;
+    };
+    length == bytes.len() - at && found == kind.number()
 }

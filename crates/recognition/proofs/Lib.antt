@@ -1,3 +1,4 @@
 pub mod ScanLaws
 pub mod RecognitionLaws
 pub mod AllLaws
+pub mod TermsLaws

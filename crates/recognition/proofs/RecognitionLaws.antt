@@ -177,6 +177,9 @@ pub record ToRecognise (l : List ℕ) (k used : ℕ) (first : Bool) (at : ℕ) (
 pub recognise-start : {h : Header} {t : Term} {l : List ℕ} {used n : ℕ} → TermIn all_vars h t l used → length l ≤ 16384 → n ≡ contents_at h → ToRecognise l h.k used false n t
 recognise-start {h} {t} p b e = record { terms = t ∷ []; row = terms-record p b e; same = recognised-one h.k t }
 
+pub recognise-to : {l : List ℕ} {k used : ℕ} {first : Bool} {at p : ℕ} {t : Term} → p ≡ at → ToRecognise l k used first at t → ToRecognise l k used first p t
+recognise-to e s = rw e s
+
 module _ {l : List ℕ} {k used : ℕ} {first : Bool} {at : ℕ} {t : Term} (s : ToRecognise l k used first at t) where
   pub recognise-end : used ≤ at → true ≡ not (is_none (read_back k t))
   recognise-end b = sym (recognised-end k first s.terms (terms-end s.row b)) ∙ s.same
@@ -194,9 +197,9 @@ module _ {l : List ℕ} {k used : ℕ} {first : Bool} {at : ℕ} {t : Term} (s :
         let f = terms-first s.row b in
         ap (λ (c : Bool). c && recognised k (is_let_all f.term) (inner f.term ++ f.rest)) (no-term f.term f.here) ∙ recognise-step f.term f.rest f.is
 
-    pub recognise-next : (g : Bool) (n : ℕ) → ((u : Term) → TermAt l at k u → true ≡ legal k first u) → ((u : Term) → TermAt l at k u → g ≡ is_let_all u)
-        → ((u : Term) → TermAt l at k u → n ≡ own_size u) → ToRecognise l k used g (at + n) t
-    recognise-next g n is-legal is-let_all is-size =
+    pub recognise-next : (g : Bool) (next : ℕ) → ((u : Term) → TermAt l at k u → true ≡ legal k first u) → ((u : Term) → TermAt l at k u → g ≡ is_let_all u)
+        → ((u : Term) → TermAt l at k u → next ≡ at + own_size u) → ToRecognise l k used g next t
+    recognise-next g next is-legal is-let_all is-size =
         let f = terms-first s.row b in
         record {
           terms = inner f.term ++ f.rest;

@@ -1,6 +1,7 @@
 -- Laws of a scan: what it stands at after a term's own bytes, and how many these are by the kind read.
 use Prim.Native.Nat.{◌*◌, ◌+◌, ◌<◌, ◌≤◌, ℕ}
-use mathlib.Core.Path.{ap, refl, subst, ◌∙◌, ◌≡◌}
+use mathlib.Core.Path.{ap, refl, subst, sym, ◌∙◌, ◌≡◌}
+use mathlib.Core.Logic.{inl, inr, ◌⊎◌}
 use mathlib.Core.List.{◌++◌, List, [], ◌∷◌}
 use lib.ListN.{length}
 use native.Mathlib.Omega.{arith}
@@ -8,6 +9,10 @@ use Rattle.buffer.specs.LittleEndian.{val}
 use Rattle.buffer.specs.Slice.{part}
 use Rattle.place.specs.TermView.{TermAt, TermView, is_let_all_at, is_let_one_at, is_rec_at, is_tuple_at}
 use Rattle.record.specs.declared.Header.{Header}
+use Rattle.record.specs.declared.kind.Kind.{Kind}
+use Rattle.record.specs.declared.kind.Kind.TheVariants.{Numeral, Reference}
+use Rattle.record.specs.Kind.{kind_named}
+use Rattle.record.proofs.KindLaws.{named-number, not-number}
 use Rattle.record.specs.Header.{contents_at}
 use Rattle.record.specs.Holding.{TermIn}
 use Rattle.record.specs.Term.{simple_size, term_size}
@@ -15,7 +20,7 @@ use Rattle.rules.specs.FreeVariables.{Vars}
 use Rattle.rules.specs.Syntax.{Term, let_all, let_one, rec, tuple}
 use Rattle.place.proofs.WholeLaws.{term-from, term-used}
 use Rattle.place.proofs.TermBytesLaws.{simple-high, simple-low}
-use Rattle.place.proofs.TermViewLaws.{as-let_all, as-let_one, as-rec, as-tuple, term-index, term-kind, term-room, term-view}
+use Rattle.place.proofs.TermViewLaws.{as-let_all, as-let_one, as-rec, as-tuple, simple-kind, term-index, term-kind, term-room, term-view}
 use Rattle.recognition.specs.Scan.{TermsUpTo, ended, followed, inner, own_size}
 
 -- THE ROW OF TERMS THAT ARE LEFT
@@ -84,7 +89,7 @@ pub terms-record : {S : Vars} {h : Header} {t : Term} {l : List ℕ} {used n : �
 terms-record p b e = terms-one (term-from p b e) (omega (arith, term-used p))
 
 -- a term has at least its length and its kind
-own-some : (t : Term) → 4 ≤ own_size t
+pub own-some : (t : Term) → 4 ≤ own_size t
 unfolding own_size
 own-some (tuple ys) = omega arith
 own-some (let_one x s u) = omega arith
@@ -98,6 +103,18 @@ terms-pass h b n e =
     let f = terms-first h b in
     let q : n ≡ own_size f.term = e f.term f.here in
     omega (arith, own-some f.term, terms-order f.after)
+
+-- THE KIND OF WHAT A LET-ONE BINDS
+
+-- an atom's
+pub atom-low : {n : ℕ} {r : Kind} → r ≡ kind_named n → (r ≡ Numeral) ⊎ (r ≡ Reference) → n < 34
+atom-low {n} e (inl f) = let d : n ≡ 32 = named-number (sym f ∙ e) in omega arith
+atom-low {n} e (inr f) = let d : n ≡ 33 = named-number (sym f ∙ e) in omega arith
+
+-- that of succ or pred
+pub of-high : {l : List ℕ} {p k : ℕ} {t : Term} {r : Kind} → TermAt l p k t → val (part l (p + 2) 2) ≡ 37 → r ≡ kind_named (val (part l (p + 10) 2))
+    → (r ≡ Numeral → ⊥) → (r ≡ Reference → ⊥) → 34 ≤ val (part l (p + 10) 2)
+of-high h e f a b = omega (arith, simple-kind h e, not-number Numeral tt f a, not-number Reference tt f b)
 
 -- HOW MANY BYTES A TERM HAS OF ITS OWN
 

@@ -2,7 +2,8 @@
 // loop that steps over own bytes meets every term, at whatever depth, in the order of the bytes and with no stack.
 #![tactic(auto)]
 
-ghost use Rattle.std.specs.Prelude.{◌≡◌, not, List, ◌≤◌, length};
+ghost use Rattle.std.specs.Iterator.{at_most};
+ghost use Rattle.std.specs.Prelude.{◌-◌, ◌≡◌, not, List, ◌≤◌, length};
 ghost use Rattle.place.specs.TermView.{AtomsAt, TermAt};
 ghost use Rattle.record.specs.Holding.{TermIn};
 ghost use Rattle.record.specs.Rows.{is_none};
@@ -12,29 +13,66 @@ ghost use Rattle.rules.specs.Syntax.{Atom, Term};
 ghost use Rattle.rules.specs.Translation.{all};
 ghost use Rattle.recognition.specs.Recognition.{legal};
 ghost use Rattle.recognition.specs.Scan.{own_size};
+ghost use Rattle.recognition.specs.Terms.{GivesTerm, StandsAtTerms};
 
-use record::Header;
-use record::kind::{LET_ALL, LET_ONE, REFERENCE, SUCC, TUPLE};
+use record::kind::Kind;
+use record::{Header, tuple_size};
 
 // From a term to the next one met.
 pub fn own_size(src: &[u8], at: usize, k: u32) -> usize
     requires { (t : Term) × TermAt src.now at k t }
     ensures { (t : Term) → TermAt src.now at k t → result ≡ own_size t }
 {
-    let kind = buffer::get_u16(src, at + 2);
-    if kind == TUPLE {
-        return 4 + 8 * k as usize;
+    match Kind::read(src, at + 2) {
+        Kind::Tuple => tuple_size(k),
+        Kind::LetOne => match Kind::read_atom(src, at + 10) {
+            Kind::Numeral | Kind::Reference => 16,
+            _ => 20,
+        },
+        Kind::LetAll => 4,
+        _ => 16 + tuple_size(k),
     }
-    if kind == LET_ONE {
-        if buffer::get_u16(src, at + 10) < SUCC {
-            return 16;
+}
+
+// The terms that stand from one place up to another, and those inside them, in the order of the bytes: each gives its place.
+#[derive(Drop)]
+pub struct Terms<'a> {
+    src: &'a [u8],
+    k: u32,
+    at: usize,
+    to: usize,
+}
+
+impl<'a> Terms<'a> {
+    pub fn between(src: &'a [u8], from: usize, to: usize, k: u32) -> Terms<'a>
+        ensures { result ≡ record { src = src.exit; k = k; at = from; to = to } }
+    {
+        Terms {
+            src,
+            k,
+            at: from,
+            to,
         }
-        return 20;
     }
-    if kind == LET_ALL {
-        return 4;
+}
+
+impl<'a> Iterator for Terms<'a> {
+    type Item = usize;
+
+    ghost can_next = { StandsAtTerms };
+
+    ghost next_gives = { GivesTerm };
+
+    ghost remaining = { λ s. at_most (s.to - s.at) };
+
+    fn next(&mut self) -> Option<usize> {
+        if self.to <= self.at {
+            return None;
+        }
+        let at = self.at;
+        self.at += own_size(self.src, at, self.k);
+        Some(at)
     }
-    20 + 8 * k as usize
 }
 
 fn is_all(src: &[u8], at: usize, k: u32) -> bool
@@ -42,16 +80,14 @@ fn is_all(src: &[u8], at: usize, k: u32) -> bool
     ensures { (ys : List Atom) → AtomsAt src.now at ys → length ys ≡ k → result ≡ same_atoms ys (all k) }
 {
     let mut p = at;
-    let mut i = 1;
-    while i <= k {
-        if buffer::get_u16(src, p + 2) != REFERENCE {
+    for x in 1..k + 1 {
+        let Kind::Reference = Kind::read(src, p + 2) else {
             return false;
-        }
-        if buffer::get_u32(src, p + 4) != i {
+        };
+        if buffer::get_u32(src, p + 4) != x {
             return false;
         }
         p += 8;
-        i += 1;
     }
     true
 }
@@ -61,23 +97,15 @@ fn is_legal(src: &[u8], at: usize, k: u32, first: bool) -> bool
     requires { ((t : Term) × TermAt src.now at k t) × (k ≤ 16) }
     ensures { (t : Term) → TermAt src.now at k t → result ≡ legal k first t }
 {
-    let kind = buffer::get_u16(src, at + 2);
-    if kind == TUPLE {
-        return is_all(src, at + 4, k);
+    match Kind::read(src, at + 2) {
+        Kind::Tuple => is_all(src, at + 4, k),
+        Kind::LetOne => match Kind::read_atom(src, at + 10) {
+            Kind::Numeral | Kind::Reference => true,
+            _ => matches!(Kind::read(src, at + 14), Kind::Reference),
+        },
+        Kind::LetAll => true,
+        _ => first && is_all(src, at + 20, k),
     }
-    if kind == LET_ONE {
-        if buffer::get_u16(src, at + 10) < SUCC {
-            return true;
-        }
-        return buffer::get_u16(src, at + 14) == REFERENCE;
-    }
-    if kind == LET_ALL {
-        return true;
-    }
-    if first {
-        return is_all(src, at + 20, k);
-    }
-    false
 }
 
 pub fn is_translation(src: &[u8], used: usize, h: Header) -> bool
@@ -85,13 +113,11 @@ pub fn is_translation(src: &[u8], used: usize, h: Header) -> bool
     ensures { (t : Term) → TermIn all_vars h t src.now used → result ≡ not (is_none (read_back h.k t)) }
 {
     let mut first = false;
-    let mut at = h.contents_at();
-    while at < used {
+    for at in Terms::between(src, h.contents_at(), used, h.k) {
         if !is_legal(src, at, h.k, first) {
             return false;
         }
-        first = buffer::get_u16(src, at + 2) == LET_ALL;
-        at += own_size(src, at, h.k);
+        first = matches!(Kind::read(src, at + 2), Kind::LetAll);
     }
     true
 }

@@ -1,5 +1,5 @@
 -- What the record of an expression or a bound is read as, by its places and its class.
-use Prim.Native.Nat.{◌<◌, ℕ, ◌≤◌}
+use Prim.Native.Nat.{ℕ, ◌≤◌}
 use mathlib.Core.Path.{◌≡◌, ap, refl, sym, ◌∙◌}
 use mathlib.Core.Bool.{Bool, false, true}
 use mathlib.Core.List.{List, []}
@@ -11,9 +11,7 @@ use native.Mathlib.Omega.{arith}
 use Rattle.rules.specs.Literals.{bound_literals, expr_literals}
 use Rattle.rules.specs.Scope.{bound_in_range, expr_in_range, in_range}
 use Rattle.rules.specs.Syntax.{Bound, Expr, dec, inc, lit, upto, upto_var, var}
-use Rattle.rules.proofs.Tests.{true-false}
-use Rattle.record.specs.declared.Class.{Class}
-use Rattle.record.specs.declared.Class.TheVariants.{Expression, Malformed, Program, Term}
+use Rattle.record.specs.declared.Class.TheVariants.{Expression}
 use Rattle.record.specs.Class.{class_of}
 use Rattle.record.specs.Front.{only, u16, u32}
 use Rattle.record.specs.Program.{bound_from, bound_kind, bound_number, expr_from, expr_kind, expr_number, read_bound, read_expr}
@@ -25,12 +23,6 @@ use Rattle.record.proofs.ProgramLaws.{bound_from-inv, expr_from-inv}
 use Rattle.record.proofs.ReadingLaws.{leaf-parts}
 
 -- BY KIND AND NUMBER
-
-abbrev pub is_expression : Class → Bool
-is_expression Program = false
-is_expression Expression = true
-is_expression Term = false
-is_expression Malformed = false
 
 expr-class : (e : Expr) → class_of (expr_kind e) ≡ Expression
 unfolding expr_kind
@@ -96,22 +88,22 @@ module _ (l : List ℕ) where
   pub expr-no-length : (u16 l 0 ≡ 8 → ⊥) → only (read_expr l) ≡ none
   expr-no-length h = leaf-only-not expr_kind expr_number expr_from l h
 
-  pub expr-no-class : (c : Class) → class_of (u16 l 2) ≡ c → is_expression c ≡ false → only (read_expr l) ≡ none
-  expr-no-class c q h = none-unless (only (read_expr l)) λ e f.
+  pub expr-no-class : (class_of (u16 l 2) ≡ Expression → ⊥) → only (read_expr l) ≡ none
+  expr-no-class h = none-unless (only (read_expr l)) λ e f.
       let p = leaf-parts expr_kind expr_number expr_from l e [] (only-inv (read_expr l) e f) in
       let k : u16 l 2 ≡ expr_kind e = sym (split-kind l p.0 p.1 [] p.3) ∙ (expr_from-inv p.0 p.2 e p.5).0 in
-      true-false (sym (ap is_expression (sym q ∙ ap class_of k ∙ expr-class e)) ∙ h)
+      h (ap class_of k ∙ expr-class e)
 
-  pub bound-no-kind : 17 < u16 l 2 → only (read_bound l) ≡ none
+  pub bound-no-kind : (u16 l 2 ≡ 16 → ⊥) → (u16 l 2 ≡ 17 → ⊥) → only (read_bound l) ≡ none
   unfolding bound_kind
-  bound-no-kind h = none-unless (only (read_bound l)) λ b q.
+  bound-no-kind not-literal not-variable = none-unless (only (read_bound l)) λ b q.
       let p = leaf-parts bound_kind bound_number bound_from l b [] (only-inv (read_bound l) b q) in
       let k : u16 l 2 ≡ bound_kind b = sym (split-kind l p.0 p.1 [] p.3) ∙ (bound_from-inv p.0 p.2 b p.5).0 in
       go b k
     where
       go : (b : Bound) → u16 l 2 ≡ bound_kind b → ⊥
-      go (upto v) e = omega arith
-      go (upto_var x) e = omega arith
+      go (upto v) e = not-literal e
+      go (upto_var x) e = not-variable e
 
   module _ (eight : length l ≡ 8) where
     pub expr-literal : u16 l 0 ≡ 8 → u16 l 2 ≡ 16 → only (read_expr l) ≡ some (lit (u32 l 4))

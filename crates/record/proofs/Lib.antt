@@ -25,3 +25,4 @@ pub mod PaddedLaws
 pub mod EditionLaws
 pub mod ConvertedLaws
 pub mod LentRowLaws
+pub mod KindLaws

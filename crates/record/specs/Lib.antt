@@ -1,3 +1,5 @@
+pub mod Kind
+pub mod Refusal
 pub mod Class
 pub mod Record
 pub mod Reading

@@ -1,16 +1,19 @@
-// The record layer's code: what the header of a program's or a term's record says, and what class a record is of. No crate
-// above knows how long a header is, its kinds or the largest value.
+// The record layer's code: what the header of a program's or a term's record says, what class a record is of, and how long a
+// tuple is. No crate above knows how long a header is, its kinds or the largest value.
 #![tactic(auto)]
 
-ghost use Rattle.std.specs.Prelude.{◌≡◌, ◌≤◌, length};
+ghost use Rattle.std.specs.Prelude.{◌*◌, ◌+◌, ◌≡◌, ◌≤◌, length};
 ghost use Rattle.buffer.specs.Slice.{put};
 ghost use Rattle.record.specs.declared.Header.{Header};
 ghost use Rattle.record.specs.Class.{class_of};
 ghost use Rattle.record.specs.Header.{contents_at, converted_header, fields_of, header_in, is_second, kind_of, largest_of};
+ghost use Rattle.record.specs.Kind.{kind_number};
 
 pub mod kind;
 pub mod limit;
 pub mod refusal;
+
+use kind::Kind;
 
 // The two sorts of record that have a header.
 #[derive(Clone, Copy)]
@@ -72,18 +75,18 @@ impl Header {
         }
     }
 
-    pub fn kind_of(self, sort: Sort) -> usize
-        ensures { result ≡ kind_of sort self }
+    pub fn kind_of(self, sort: Sort) -> Kind
+        ensures { kind_number result ≡ kind_of sort self }
     {
         let edition = self.edition;
         match edition {
             Edition::First => match sort {
-                Sort::Program => kind::PROGRAM,
-                Sort::Term => kind::TERM,
+                Sort::Program => Kind::Program,
+                Sort::Term => Kind::Term,
             },
             Edition::Second(_) => match sort {
-                Sort::Program => kind::SECOND_PROGRAM,
-                Sort::Term => kind::SECOND_TERM,
+                Sort::Program => Kind::SecondProgram,
+                Sort::Term => Kind::SecondTerm,
             },
         }
     }
@@ -120,8 +123,8 @@ impl Header {
 }
 
 // The kind of a record of this sort once it is moved, which its k does not change.
-pub fn converted_kind(sort: Sort, to: Conversion) -> usize
-    ensures { (h : Header) → result ≡ kind_of sort (converted_header to h) }
+pub fn converted_kind(sort: Sort, to: Conversion) -> Kind
+    ensures { (h : Header) → kind_number result ≡ kind_of sort (converted_header to h) }
 {
     let any = Header {
         k: 0,
@@ -130,13 +133,11 @@ pub fn converted_kind(sort: Sort, to: Conversion) -> usize
     any.converted(to).kind_of(sort)
 }
 
+#[tactic(auto, unfolding(crate::specs::Header::is_second, crate::specs::Kind::kind_named))]
 fn is_second(kind: usize) -> bool
     ensures { result ≡ is_second kind }
 {
-    if kind == kind::SECOND_PROGRAM {
-        return true;
-    }
-    kind == kind::SECOND_TERM
+    matches!(Kind::named(kind), Kind::SecondProgram | Kind::SecondTerm)
 }
 
 // Where the contents start of the record that stands first: known before its header is.
@@ -158,12 +159,12 @@ pub fn read_header(buf: &[u8]) -> Header
     let k = buffer::get_u32(buf, 4);
     if is_second(buffer::get_u16(buf, 2)) {
         return Header {
-            k: k,
+            k,
             edition: Edition::Second(buffer::get_u32(buf, FIRST_LENGTH)),
         };
     }
     Header {
-        k: k,
+        k,
         edition: Edition::First,
     }
 }
@@ -178,6 +179,7 @@ pub enum Class {
 }
 
 // The first range that fits decides, so 4 to 6 stand before the range that holds them.
+// Kept: ranges of numbers, since the classes are defined of every number (`class_of`), whether it names a kind or not.
 pub fn class_of(kind: usize) -> Class
     ensures { result ≡ class_of kind }
 {
@@ -189,4 +191,11 @@ pub fn class_of(kind: usize) -> Class
         32..=41 => Class::Term,
         _ => Class::Malformed,
     }
+}
+
+// The length of a tuple, which has an atom for each variable.
+pub fn tuple_size(k: u32) -> usize
+    ensures { result ≡ 4 + 8 * k }
+{
+    4 + 8 * k as usize
 }

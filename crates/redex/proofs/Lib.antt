@@ -1,3 +1,4 @@
+pub mod LevelsLaws
 pub mod LookLaws
 pub mod PlanMeaningLaws
 pub mod RuleLaws

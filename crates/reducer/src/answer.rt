@@ -1,10 +1,10 @@
 // How a run of the reducer ended: as any run, and how many variables its reductions replaced (02 C-13).
 ghost use Rattle.std.specs.Prelude.{◌≡◌};
-ghost use Rattle.run.specs.Represents.{as_run_answer};
-ghost use Rattle.run.specs.RunAnswer.{refusal};
-ghost use Rattle.reducer.specs.Represents.{in_numbers};
+ghost use Rattle.run.specs.Represents.{run_answer_of};
+ghost use Rattle.reducer.specs.Represents.{answer_of, in_numbers, replaced_of};
 
-use run::RunEnd;
+use record::refusal::Refusal;
+use run::{RunEnd, RunNumbers};
 
 // A reduction replaces at most 2,048 variables, one for every 8 bytes of a buffer, and a run makes less than 2^32 of them: their sum
 // is below 2^43.
@@ -26,26 +26,28 @@ pub struct ReducedNumbers {
     pub replaced: u64,
 }
 
-pub fn in_numbers(reduced: Reduced) -> ReducedNumbers
-    ensures { result ≡ in_numbers (as_run_answer reduced.end) reduced.replaced }
+impl From<Result<Reduced, Refusal>> for ReducedNumbers {
+    ghost from_gives = { λ answer numbers. numbers ≡ in_numbers (answer_of answer) (replaced_of answer) };
+
+    fn from(answer: Result<Reduced, Refusal>) -> ReducedNumbers {
+        match answer {
+            Ok(reduced) => numbers_of(Ok(reduced.end), reduced.replaced),
+            // A refused run replaces nothing.
+            Err(refusal) => numbers_of(Err(refusal), 0),
+        }
+    }
+}
+
+fn numbers_of(answer: Result<RunEnd, Refusal>, replaced: u64) -> ReducedNumbers
+    ensures { result ≡ in_numbers (run_answer_of answer) replaced }
 {
-    let end = run::in_numbers(reduced.end);
+    let end = RunNumbers::from(answer);
     ReducedNumbers {
         number: end.number,
         outcome: end.outcome,
         steps: end.steps,
         left: end.left,
         used: end.used,
-        replaced: reduced.replaced,
-    }
-}
-
-// A refused run replaces nothing.
-pub fn refuse(number: u32) -> Reduced
-    ensures { (as_run_answer result.end ≡ refusal number) × (result.replaced ≡ 0) }
-{
-    Reduced {
-        end: run::refuse(number),
-        replaced: 0,
+        replaced,
     }
 }

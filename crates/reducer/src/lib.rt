@@ -6,12 +6,12 @@ pub mod answer;
 ghost use Rattle.std.specs.Prelude.{length};
 ghost use Rattle.rules.specs.Syntax.{Term};
 ghost use Rattle.reducer.specs.RunReducer.{run_reducer};
-ghost use Rattle.reducer.specs.Running.{Accepted, Gives, accepted_run};
+ghost use Rattle.reducer.specs.Running.{Accepted, Answers, Gives, accepted_run};
 
-use crate::answer::{Reduced, refuse};
+use crate::answer::Reduced;
 use plan::outcome_of;
 use record::Header;
-use record::refusal::FREE_VARIABLE;
+use record::refusal::Refusal;
 use redex::look;
 use reducing::perform;
 use run::Tally;
@@ -49,17 +49,12 @@ pub fn run_accepted(buf: &mut [u8], used: usize, h: Header, budget: u32) -> Redu
 }
 
 // The call: a refusal comes before anything is written.
-pub fn run_reducer(buf: &mut [u8], used: usize, budget: u32) -> Reduced
-    ensures { Gives result buf.new (run_reducer buf.old used budget) }
+pub fn run_reducer(buf: &mut [u8], used: usize, budget: u32) -> Result<Reduced, Refusal>
+    ensures { Answers result buf.new (run_reducer buf.old used budget) }
 {
-    let checked = check_term(buf, used);
-    let number = checked.number;
-    if number != 0 {
-        return refuse(number);
-    }
-    let h = record::read_header(buf);
+    let h = check_term(buf, used)?;
     if !is_closed(buf, used, h) {
-        return refuse(FREE_VARIABLE);
+        return Err(Refusal::FreeVariable);
     }
-    run_accepted(buf, used, h, budget)
+    Ok(run_accepted(buf, used, h, budget))
 }

@@ -58,8 +58,8 @@ pub value_read : (store bytes : List ℕ) (i v : ℕ) → i < length store → v
 value_read store bytes i v h e r =
     rw (add-one i, values-snoc i bytes, ← e, ← r) (take-suc-set store i v h)
 
-pub values-read : (store bytes : List ℕ) (i : ℕ) → i ≡ length store → take i store ≡ values_in i bytes → store ≡ values_in i bytes
-values-read store bytes i e r = sym (take_all i store (omega arith)) ∙ r
+pub values_read : (store bytes : List ℕ) (i n : ℕ) → n ≡ length store → n ≡ i → take i store ≡ values_in i bytes → store ≡ values_in n bytes
+values_read store bytes i n e k r = rw k (sym (take_all i store (omega arith)) ∙ r)
 
 -- The values stand in so many bytes: what is behind them does not matter.
 pub values-within : (n m : ℕ) (bytes : List ℕ) → 4 * n ≤ m → values_in n (take m bytes) ≡ values_in n bytes

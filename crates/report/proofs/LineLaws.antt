@@ -23,6 +23,10 @@ use Rattle.record.proofs.RowLaws.{first-applies, first-before, first-behind, fir
 use Rattle.rules.specs.Literals.{small_values}
 use Rattle.rules.specs.Store.{up_to}
 use Rattle.reducer.specs.RunReducer.{run_reducer}
+use Rattle.std.proofs.Common.{Result, Ok, Err}
+use Rattle.record.specs.declared.refusal.Refusal.{Refusal}
+use Rattle.term.specs.Answer.{substituted_of}
+use Rattle.term.specs.declared.substitute.Filled.{Filled}
 use Rattle.run.specs.RunAnswer.{RunAnswer}
 use Rattle.stepper.specs.RunStepper.{run_stepper}
 use Rattle.term.specs.Calls.{Substituted, substitute_call, translate_call, translate_rows, translated}
@@ -70,6 +74,16 @@ pub runs-answer : (a : List ℕ) (said : ℕ) (b : List ℕ) (used : ℕ) (store
     → ran_line s r after ≡ runs_line (run_stepper a said store program_budget) (reducer_from (substitute_call b used store))
 unfolding reducer_from
 runs-answer a said b used store after filled s r f g i j = rw (g, i, j, f) refl
+
+-- The line of two runs is by their outcomes and steps.
+pub shown-alike : (s s' r r' : RunAnswer) (store : List ℕ) → s.outcome ≡ s'.outcome → s.steps ≡ s'.steps → r.outcome ≡ r'.outcome → r.steps ≡ r'.steps → ran_line s r store ≡ ran_line s' r' store
+unfolding ran_line
+shown-alike s s' r r' store a b c d = rw (a, b, c, d) refl
+
+-- The buffer that substituting left, refused or not.
+pub substituted-written : (answer : Result Filled Refusal) (buf : List ℕ) → (substituted_of answer buf).written ≡ buf
+substituted-written (Ok filled) buf = refl
+substituted-written (Err refusal) buf = refl
 
 -- the first k of the program's 16 values
 abbrev pub no_values : List ℕ

@@ -10,12 +10,12 @@ use Rattle.rules.specs.Evaluate.{assign_steps}
 use Rattle.rules.specs.Step.{bound_value}
 use Rattle.rules.specs.Syntax.{Block, Expr, assign, dec, empty, inc, lit, loop, nest, var}
 use Rattle.translator.specs.RowTranslation.{RowAt}
-use Rattle.forecast.specs.Figures.{Weights, assign_weight, longest_of, loop_longest, turn_weight, weigh}
+use Rattle.forecast.specs.Figures.{Weights, assign_weight, longest_of, loop_longest, program_weights, turn_weight, weigh}
 use Rattle.forecast.specs.Rows.{Opened, RowOf, opens_assign, opens_loop, opens_nest}
 use Rattle.forecast.proofs.WeightLaws.{weigh-longest}
 use Rattle.room_forecast.specs.Walked.{behind_of, inside_of, inside_weight, own_weight, top_of, unrolled_of, waiting_of, weighed_of, weights_of}
+use Rattle.room_forecast.specs.declared.Measure.{Measure}
 use Rattle.room_forecast.specs.declared.Weighed.{Weighed}
-use Rattle.room_forecast.proofs.WeightsLaws.{looped-program, nested-program, plain-weight, worked-program}
 
 -- A row as the translator has it.
 abbrev pub row_at : {l : List ℕ} {k p q : ℕ} {b : Block} → RowOf l k p q b → RowAt l p q
@@ -54,12 +54,12 @@ steps-worked w (inc x) h = refl
 steps-worked w (dec x) h = refl
 
 -- in a configuration both are as long
-assign-bytes : (k : ℕ) (e : Expr) → k ≡ 0 → assign_weight (weights_of k) e ≡ 16
-unfolding assign_weight
-assign-bytes k (lit n) z = plain-weight k
-assign-bytes k (var x) z = plain-weight k
-assign-bytes k (inc x) z = worked-program k z
-assign-bytes k (dec x) z = worked-program k z
+assign-bytes : (e : Expr) → assign_weight program_weights e ≡ 16
+unfolding assign_weight program_weights
+assign-bytes (lit n) = refl
+assign-bytes (var x) = refl
+assign-bytes (inc x) = refl
+assign-bytes (dec x) = refl
 
 -- BY THE FIRST COMMAND
 
@@ -90,9 +90,6 @@ module _ {l s : List ℕ} {from end : ℕ} {b : Block} {own turns inner next : �
   opened-behind (opens_loop x m c r is o t i inside behind) = rw is behind
   opened-behind (opens_nest c r is o t i inside behind) = rw is behind
 
-  pub opened-last : Opened l s from end b own turns inner next → next ≤ end
-  opened-last h = omega (arith, (opened-behind h).ends)
-
   pub opened_inside : Opened l s from end b own turns inner next → (inner ≡ from + 16 → ⊥) → RowOf l (length s) inner next (inside_of b)
   unfolding inside_of
   opened_inside (opens_assign x e r is o t i n row) h = absurd (h i)
@@ -107,11 +104,11 @@ module _ {l s : List ℕ} {from end : ℕ} {b : Block} {own turns inner next : �
 
   -- WHAT IT WEIGHS BY ITSELF
 
-  pub own-bytes : (k : ℕ) → k ≡ 0 → Opened l s from end b own turns inner next → inner - from ≡ own_weight (weights_of k) b
-  unfolding own_weight
-  own-bytes k z (opens_assign x e r is o t i n row) = rw is (omega (arith, assign-bytes k e z))
-  own-bytes k z (opens_loop x m c r is o t i inside behind) = rw is (omega (arith, looped-program k z))
-  own-bytes k z (opens_nest c r is o t i inside behind) = rw is (omega (arith, nested-program k z))
+  pub own-bytes : Opened l s from end b own turns inner next → inner - from ≡ own_weight program_weights b
+  unfolding own_weight program_weights
+  own-bytes (opens_assign x e r is o t i n row) = rw is (omega (arith, assign-bytes e))
+  own-bytes (opens_loop x m c r is o t i inside behind) = rw is (omega arith)
+  own-bytes (opens_nest c r is o t i inside behind) = rw is (omega arith)
 
   pub own-nested : (w : Weights) → Opened l s from end b own turns inner next → inner ≡ from + 4 → w.nested ≡ own_weight w b
   unfolding own_weight
@@ -125,11 +122,11 @@ module _ {l s : List ℕ} {from end : ℕ} {b : Block} {own turns inner next : �
   own-looped w (opens_loop x m c r is o t i inside behind) h = rw is refl
   own-looped w (opens_nest c r is o t i inside behind) h = absurd (omega arith)
 
-  pub own-plain : (k : ℕ) → Opened l s from end b own turns inner next → (inner ≡ from + 4 → ⊥) → (inner ≡ from + 20 → ⊥) → own ≡ 1 → 16 ≡ own_weight (weights_of k) b
+  pub own-plain : (w : Weights) → Opened l s from end b own turns inner next → (inner ≡ from + 4 → ⊥) → (inner ≡ from + 20 → ⊥) → own ≡ 1 → w.plain ≡ own_weight w b
   unfolding own_weight
-  own-plain k (opens_assign x e r is o t i n row) h g f = rw is (sym (steps-plain (weights_of k) e (sym o ∙ f) ∙ plain-weight k))
-  own-plain k (opens_loop x m c r is o t i inside behind) h g f = absurd (g i)
-  own-plain k (opens_nest c r is o t i inside behind) h g f = absurd (h i)
+  own-plain w (opens_assign x e r is o t i n row) h g f = rw is (sym (steps-plain w e (sym o ∙ f)))
+  own-plain w (opens_loop x m c r is o t i inside behind) h g f = absurd (g i)
+  own-plain w (opens_nest c r is o t i inside behind) h g f = absurd (h i)
 
   pub own-worked : (w : Weights) → Opened l s from end b own turns inner next → (inner ≡ from + 4 → ⊥) → (inner ≡ from + 20 → ⊥) → (own ≡ 1 → ⊥) → w.worked ≡ own_weight w b
   unfolding own_weight
@@ -214,16 +211,16 @@ module _ {l s : List ℕ} {from end : ℕ} {b : Block} {own turns inner next : �
 abbrev weighed : ℕ → ℕ → Weighed
 weighed i r = record { inside = i; behind = r }
 
-weighed-is : (k : ℕ) (b : Block) (i r : ℕ) → i ≡ (weighed_of k b).inside → r ≡ (weighed_of k b).behind → weighed i r ≡ weighed_of k b
-weighed-is k b i r h g = ap₂ weighed h g
+weighed-is : (μ : Measure) (b : Block) (i r : ℕ) → i ≡ (weighed_of μ b).inside → r ≡ (weighed_of μ b).behind → weighed i r ≡ weighed_of μ b
+weighed-is μ b i r h g = ap₂ weighed h g
 
-module _ (k : ℕ) {both : ℕ} {b : Block} (e : both ≡ (weighed_of k b).inside + (weighed_of k b).behind) where
+module _ (μ : Measure) {both : ℕ} {b : Block} (e : both ≡ (weighed_of μ b).inside + (weighed_of μ b).behind) where
   module _ {l s : List ℕ} {from end : ℕ} {own turns inner next : ℕ} (O : Opened l s from end b own turns inner next) where
-    pub weighed-assign : inner ≡ from + 16 → weighed 0 both ≡ weighed_of k b
-    weighed-assign h = let z = inside-none (weights_of k) O h in weighed-is k b 0 both (omega arith) (omega arith)
+    pub weighed-assign : inner ≡ from + 16 → weighed 0 both ≡ weighed_of μ b
+    weighed-assign h = let z = inside-none (weights_of μ) O h in weighed-is μ b 0 both (omega arith) (omega arith)
 
-    pub weighed-inside : (inner ≡ from + 16 → ⊥) → (x : ℕ) → x ≡ weigh (weights_of k) (inside_of b) → (x ≤ both) × (weighed x (both - x) ≡ weighed_of k b)
-    weighed-inside h x g = let z = inside-some (weights_of k) O h in (omega arith, weighed-is k b x (both - x) (omega arith) (omega arith))
+    pub weighed-inside : (inner ≡ from + 16 → ⊥) → (x : ℕ) → x ≡ weigh (weights_of μ) (inside_of b) → (x ≤ both) × (weighed x (both - x) ≡ weighed_of μ b)
+    weighed-inside h x g = let z = inside-some (weights_of μ) O h in (omega arith, weighed-is μ b x (both - x) (omega arith) (omega arith))
 
-    pub weighed-behind : (x : ℕ) → x ≡ weigh (weights_of k) (behind_of b) → (x ≤ both) × (weighed (both - x) x ≡ weighed_of k b)
-    weighed-behind x g = (omega arith, weighed-is k b (both - x) x (omega arith) (omega arith))
+    pub weighed-behind : (x : ℕ) → x ≡ weigh (weights_of μ) (behind_of b) → (x ≤ both) × (weighed (both - x) x ≡ weighed_of μ b)
+    weighed-behind x g = (omega arith, weighed-is μ b (both - x) x (omega arith) (omega arith))

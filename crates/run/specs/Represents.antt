@@ -1,12 +1,14 @@
 -- What the code's types stand for: each value of the code's Outcome and RunEnd, as a value of the specification.
-use Rattle.std.specs.Prelude.{ℕ}
+use Rattle.std.specs.Prelude.{ℕ, Result, Ok, Err}
+use Rattle.record.specs.declared.refusal.Refusal.{Refusal}
+use Rattle.record.specs.Refusal.{refusal_number}
 use Rattle.rules.specs.Run as rules
 use Rattle.run.specs.declared.Outcome.{Outcome}
 use Rattle.run.specs.declared.Outcome.TheVariants.{Finished, NoRoom, Over, Refused, Spent}
 use Rattle.run.specs.declared.RunEnd.{RunEnd}
 use Rattle.run.specs.declared.RunNumbers.{RunNumbers}
 use Rattle.run.specs.declared.Tally.{Tally}
-use Rattle.run.specs.RunAnswer.{RunAnswer, outcome_number}
+use Rattle.run.specs.RunAnswer.{RunAnswer, outcome_number, refusal}
 
 -- Each case of the code's enum, with 01's word for the outcome.
 abbrev pub as_outcome : Outcome → rules.Outcome
@@ -16,9 +18,14 @@ as_outcome NoRoom = rules.no_room  -- no room: the next state is longer than the
 as_outcome Spent = rules.spent  -- spent: count = budget, and a further step possible
 as_outcome Refused = rules.refused  -- refused: the call was not accepted
 
--- How a run ended, field by field.
+-- How a run ended that was made, field by field.
 abbrev pub as_run_answer : RunEnd → RunAnswer
-as_run_answer r = record { number = r.number; outcome = as_outcome r.outcome; steps = r.steps; left = r.left; used = r.used }
+as_run_answer r = record { number = 0; outcome = as_outcome r.outcome; steps = r.steps; left = r.left; used = r.used }
+
+-- The answer of a run that may be refused: how it ended, or the refusal's number.
+abbrev pub run_answer_of : Result RunEnd Refusal → RunAnswer
+run_answer_of (Ok r) = as_run_answer r
+run_answer_of (Err r) = refusal (refusal_number r)
 
 -- How a run ended, in numbers alone: the outcome is its number.
 abbrev pub in_numbers : RunAnswer → RunNumbers

@@ -4,9 +4,11 @@
 pub mod value;
 
 ghost use Rattle.std.specs.Prelude.{◌≡◌, ◌+◌, ◌<◌, ◌^◌};
-ghost use Rattle.run.specs.Represents.{answered, as_outcome, as_run_answer, in_numbers};
-ghost use Rattle.run.specs.RunAnswer.{outcome_number, refusal, room_reads};
+ghost use Rattle.run.specs.Represents.{answered, as_outcome, as_run_answer, in_numbers, run_answer_of};
+ghost use Rattle.run.specs.RunAnswer.{outcome_number, room_reads};
 ghost use Rattle.run.specs.Tally.{advanced, ends_with, is_spent, started};
+
+use record::refusal::Refusal;
 
 #[derive(Clone, Copy)]
 pub enum Outcome {
@@ -17,27 +19,17 @@ pub enum Outcome {
     Refused,
 }
 
-// The outcomes' numbers in C.
-const REFUSED: u32 = 0;
-
-pub const FINISHED: u32 = 1;
-
-const OVER: u32 = 2;
-
-const NO_ROOM: u32 = 3;
-
-const SPENT: u32 = 4;
-
 // An enum cannot cross the C boundary: its number does.
+#[tactic(auto, unfolding(crate::specs::RunAnswer::outcome_number))]
 pub fn outcome_number(o: Outcome) -> u32
     ensures { result ≡ outcome_number (as_outcome o) }
 {
     match o {
-        Outcome::Finished => FINISHED,
-        Outcome::Over => OVER,
-        Outcome::NoRoom => NO_ROOM,
-        Outcome::Spent => SPENT,
-        Outcome::Refused => REFUSED,
+        Outcome::Refused => 0,
+        Outcome::Finished => 1,
+        Outcome::Over => 2,
+        Outcome::NoRoom => 3,
+        Outcome::Spent => 4,
     }
 }
 
@@ -77,6 +69,7 @@ impl Tally {
 }
 
 // What a state reads whose next state has `next` bytes. Spent says that the step can be made; the budget has not been looked at.
+#[tactic(auto, unfolding(crate::specs::RunAnswer::room_reads))]
 pub fn room_outcome(next: usize, room: usize) -> Outcome
     ensures { as_outcome result ≡ room_reads next room }
 {
@@ -88,29 +81,26 @@ pub fn room_outcome(next: usize, room: usize) -> Outcome
 }
 
 // Whether a run ends here, by the outcome that its state reads.
+#[tactic(auto, unfolding(crate::specs::Tally::ends_with))]
 pub fn ends(outcome: Outcome, tally: Tally) -> bool
     ensures { result ≡ ends_with outcome tally }
 {
     match outcome {
-        Outcome::Finished => true,
-        Outcome::Over => true,
-        Outcome::NoRoom => true,
         Outcome::Spent => tally.spent(),
-        Outcome::Refused => true,
+        _ => true,
     }
 }
 
-// How a run ended. `number` is that of the refusal, 0 for a run that was made; `used` is the new used length.
+// How a run ended that was made; `used` is the new used length.
 #[derive(Clone, Copy)]
 pub struct RunEnd {
-    pub number: u32,
     pub outcome: Outcome,
     pub steps: u32,
     pub left: u32,
     pub used: u32,
 }
 
-// The same as it crosses the C boundary.
+// A run's answer as it crosses the C boundary. `number` is that of the refusal, 0 for a run that was made.
 #[repr(C)]
 #[derive(Clone, Copy)]
 pub struct RunNumbers {
@@ -121,29 +111,27 @@ pub struct RunNumbers {
     pub used: u32,
 }
 
-pub fn in_numbers(end: RunEnd) -> RunNumbers
-    ensures { result ≡ in_numbers (as_run_answer end) }
-{
-    let outcome = end.outcome;
-    RunNumbers {
-        number: end.number,
-        outcome: outcome_number(outcome),
-        steps: end.steps,
-        left: end.left,
-        used: end.used,
-    }
-}
+impl From<Result<RunEnd, Refusal>> for RunNumbers {
+    ghost from_gives = { λ answer numbers. numbers ≡ in_numbers (run_answer_of answer) };
 
-// A refused run hands nothing back but its number.
-pub fn refuse(number: u32) -> RunEnd
-    ensures { as_run_answer result ≡ refusal number }
-{
-    RunEnd {
-        number,
-        outcome: Outcome::Refused,
-        steps: 0,
-        left: 0,
-        used: 0,
+    fn from(answer: Result<RunEnd, Refusal>) -> RunNumbers {
+        match answer {
+            Ok(end) => RunNumbers {
+                number: 0,
+                outcome: outcome_number(end.outcome),
+                steps: end.steps,
+                left: end.left,
+                used: end.used,
+            },
+            // A refused run hands nothing back but its number.
+            Err(refusal) => RunNumbers {
+                number: refusal.number(),
+                outcome: outcome_number(Outcome::Refused),
+                steps: 0,
+                left: 0,
+                used: 0,
+            },
+        }
     }
 }
 
@@ -151,7 +139,6 @@ pub fn answer(outcome: Outcome, tally: Tally, used: u32) -> RunEnd
     ensures { as_run_answer result ≡ answered outcome tally used }
 {
     RunEnd {
-        number: 0,
         outcome,
         steps: tally.steps,
         left: tally.left,

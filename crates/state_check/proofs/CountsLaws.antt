@@ -1,7 +1,7 @@
 -- The values that words hold, one after the other: what is left of them behind j entries.
 use Prim.Native.Nat.{◌*◌, ◌+◌, ◌<◌, ◌≤◌, suc, zero, ℕ}
-use mathlib.Core.Path.{ap, refl, sym, ◌∙◌, ◌≡◌}
-use mathlib.Core.Bool.{Bool, false, not, true, ◌&&◌}
+use mathlib.Core.Path.{ap, ap₂, refl, sym, ◌∙◌, ◌≡◌}
+use mathlib.Core.Bool.{Bool, false, not, true, ◌&&◌, ◌||◌}
 use mathlib.Core.List.{◌++◌, List, [], ◌∷◌, append_assoc}
 use borrow.Author.Tests.{le-ltb, lt-ltb}
 use lib.Dec.{ltb}
@@ -13,8 +13,9 @@ use Rattle.rules.proofs.LiteralsLaws.{first_above, second-decides}
 use Rattle.rules.proofs.StoreLaws.{up_to-above, up_to-iff}
 use Rattle.counting.specs.Held.{Held}
 use Rattle.counting.specs.SmallState.{counts_of, sum_of, top_as, tops_of}
-use Rattle.counting.specs.StateWords.{held_at, unpacked}
-use Rattle.canonical.proofs.HeldLaws.{behind, behind-held, behind-some, count_next}
+use Rattle.counting.specs.StateWords.{held_at, held_from, unpacked}
+use Rattle.std.specs.List.{list_any, range_with_len}
+use Rattle.canonical.proofs.HeldLaws.{behind, from-few, behind-held, behind-some, count_next}
 
 -- ONE VALUE
 
@@ -115,3 +116,34 @@ tops-none (h ∷ hs) e = absurd (omega arith)
 
 pub counts-last : {ws : List ℕ} {n j : ℕ} → Looked ws n j → n ≤ j → counts_behind ws j ≡ sum_of (get_or ws 1 0) (get_or ws 2 0)
 counts-last {ws} {n} {j} l b = ap (λ (x : List ℕ). x ++ sum_of (get_or ws 1 0) (get_or ws 2 0)) (tops-none (behind ws j) (omega (arith, l.all, l.some)))
+
+-- ANY OF THEM
+
+-- the top count of the entry behind j others is above the largest
+abbrev pub top-above : (ℕ → Bool) → List ℕ → ℕ → Bool
+top-above ok ws j = not (small_values ok (top_as (get_or ws (3 + 6 * j) 0) (get_or ws (3 + 6 * j + 2) 0) []))
+
+any-from : {ws : List ℕ} {n : ℕ} (ok : ℕ → Bool) (j m : ℕ) → Looked ws n j → n ≡ j + m
+    → list_any (top-above ok ws) (range_with_len j m) || not (small_values ok (sum_of (get_or ws 1 0) (get_or ws 2 0))) ≡ not (small_values ok (counts_behind ws j))
+any-from {ws} {n} ok j zero l e = ap (λ (x : List ℕ). not (small_values ok x)) (sym (counts-last l (omega arith)))
+any-from {ws} {n} ok j (suc m) l e = by-test (top-above ok ws j) _ _ refl (any-from ok (j + 1) m (looked-on l b) (omega arith))
+  where
+    b : j < n
+    b = omega arith
+
+    by-test : (t x y : Bool) → top-above ok ws j ≡ t → x || y ≡ not (small_values ok (counts_behind ws (j + 1))) → (t || x) || y ≡ not (small_values ok (counts_behind ws j))
+    by-test true x y f e = some-above l b ok (top-above ok ws j) refl f
+    by-test false x y f e = e ∙ ap not (sym (none_above l b ok (top-above ok ws j) refl f))
+
+pub counts-any : (ws : List ℕ) (ok : ℕ → Bool) (n : ℕ) → n ≡ length (held_from ws 3 31) → (r s : Bool) → r ≡ list_any (top-above ok ws) (range_with_len 0 n) → s ≡ not (small_values ok (sum_of (get_or ws 1 0) (get_or ws 2 0)))
+    → r || s ≡ not (small_values ok (counts_of (unpacked ws)))
+counts-any ws ok n c r s e f =
+    ap₂ (λ (x y : Bool). x || y) e f
+    ∙ any-from ok 0 n (record { few = omega (arith, c, from-few ws 3 31); all = c; some = omega arith }) (omega arith)
+    ∙ ap (λ (x : List ℕ). not (small_values ok x)) (sym (counts_all ws))
+
+-- one above is enough
+pub counts-some : (ws : List ℕ) (ok : ℕ → Bool) (n : ℕ) → n ≡ length (held_from ws 3 31) → (r : Bool) → r ≡ list_any (top-above ok ws) (range_with_len 0 n) → r ≡ true → r ≡ not (small_values ok (counts_of (unpacked ws)))
+counts-some ws ok n c r e t =
+    let s = not (small_values ok (sum_of (get_or ws 1 0) (get_or ws 2 0))) in
+    t ∙ ap (λ (b : Bool). b || s) (sym t) ∙ counts-any ws ok n c r s e refl

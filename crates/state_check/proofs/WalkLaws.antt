@@ -1,9 +1,10 @@
 -- Laws of the walk inwards: what is left to read comes to the reading of the whole.
-use Prim.Native.Nat.{◌-◌, ◌+◌, ◌<◌, ◌≤◌, ◌*◌, suc, zero, ℕ}
+use Prim.Native.Nat.{◌-◌, ◌+◌, ◌<◌, ◌≤◌, ◌*◌, ℕ}
 use mathlib.Core.Path.{ap, ap₂, refl, subst, sym, ◌∙◌, ◌≡◌}
-use mathlib.Core.Bool.{Bool, false, not, true}
+use mathlib.Core.Bool.{Bool, false, true}
 use mathlib.Core.List.{List, [], ◌∷◌}
-use mathlib.Core.Option.{Option, none, some}
+use mathlib.Core.Option.{Option as Possible, none, some}
+use Rattle.std.proofs.Common.{None, Option, Some}
 use borrow.Author.Tests.{eq-eqb, ne_eqb}
 use lib.Dec.{eqb}
 use lib.ListN.{get_or, length}
@@ -22,8 +23,13 @@ use Rattle.counting.specs.ReadState.{is_right, Read, is_last, on_rest, read_here
 use Rattle.counting.specs.StateWords.{decode_state, held_at, held_from, unpacked}
 use Rattle.counting.proofs.BytesLaws.{inside-loop, inside-nest, rest-stands}
 use Rattle.counting.proofs.PlaceLaws.{rest-located}
-use Rattle.canonical.proofs.HeldLaws.{behind, behind-few, behind-held, behind-some}
-use Rattle.state_check.specs.Class.{ClassOf, Inside, class_right, head_size, inside_right, is_some, mark_size}
+use Rattle.canonical.proofs.HeldLaws.{behind, behind-few, behind-held, behind-some, held-of}
+use Rattle.canonical.specs.Canonical.{held_of}
+use Rattle.state_words.specs.declared.EntryWords.{EntryWords}
+use Rattle.state_words.specs.Entry.{entry_at}
+use Rattle.state_check.specs.declared.Class.{Class}
+use Rattle.state_check.specs.declared.Class.TheVariants.{InBlock, InBody, Shut}
+use Rattle.state_check.specs.Class.{ClassOf, Inside, class_right, inside_of, inside_right, is_some}
 
 -- THE WALK: j entries are read, of n; the bytes hold the program's first command at o
 
@@ -56,14 +62,14 @@ pub record Left (buf : List ℕ) (o : ℕ) (b : Block) (first end p : ℕ) : Typ
 left-of : (buf : List ℕ) (o : ℕ) (b : Block) (first end p : ℕ) → BlockAt buf (o + first) b → first + block_size b ≡ end → is_some (rest_at b first p) ≡ true → Left buf o b first end p
 left-of buf o b first end p h s t = by-rest (rest_at b first p) refl t
   where
-    by-rest : (z : Option Block) → rest_at b first p ≡ z → is_some z ≡ true → Left buf o b first end p
+    by-rest : (z : Possible Block) → rest_at b first p ≡ z → is_some z ≡ true → Left buf o b first end p
     by-rest none e t = absurd (unfold is_some in (true-false (sym t)))
     by-rest (some r) e t = record { rest = r; is = e; stands = rest-stands buf o b first p r e h; size = omega (arith, (rest-located b first p r e).size) }
 
 read_none : (w v : ℕ) (hs : List Held) (b : Block) (a p : ℕ) → is_some (rest_at b a p) ≡ false → is_right (read_state w v hs b a p) ≡ false
 read_none w v hs b a p t = by-held hs
   where
-    by-rest : (z : Option Block) (f : Block → Read State) → is_some z ≡ false → is_right (on_rest z f) ≡ false
+    by-rest : (z : Possible Block) (f : Block → Read State) → is_some z ≡ false → is_right (on_rest z f) ≡ false
     by-rest none f e = unfold on_rest is_right in refl
     by-rest (some r) f e = absurd (unfold is_some in (true-false e))
 
@@ -71,30 +77,22 @@ read_none w v hs b a p t = by-held hs
     by-held [] = unfold read_state in (by-rest (rest_at b a p) _ t)
     by-held (h ∷ hs) = unfold read_state in (by-rest (rest_at b a p) _ t)
 
-not-true : (t : Bool) → not t ≡ true → t ≡ false
-not-true true e = absurd (true-false (sym e))
-not-true false e = refl
-
-not-false : (t : Bool) → not t ≡ false → t ≡ true
-not-false true e = refl
-not-false false e = absurd (true-false e)
-
 none_left : (hs : List Held) → length hs ≡ 0 → hs ≡ []
 none_left [] e = refl
 none_left (h ∷ hs) e = absurd (omega arith)
 
 module _ {P : Block} {buf ws : List ℕ} {o n j first end p : ℕ} (g : Reading P buf ws o n j first end p) where
-  pub reading-no-place : (t : Bool) → t ≡ is_some (rest_at g.block first p) → not t ≡ true → false ≡ is_right (decode_state P ws)
-  reading-no-place t e f = sym (read_none (get_or ws 1 0) (get_or ws 2 0) (behind ws j) g.block first p (sym e ∙ not-true t f)) ∙ g.same
+  pub reading-no-place : (t : Bool) → t ≡ is_some (rest_at g.block first p) → t ≡ false → false ≡ is_right (decode_state P ws)
+  reading-no-place t e f = sym (read_none (get_or ws 1 0) (get_or ws 2 0) (behind ws j) g.block first p (sym e ∙ f)) ∙ g.same
 
-  pub reading-left : (t : Bool) → t ≡ is_some (rest_at g.block first p) → not t ≡ false → Left buf o g.block first end p
-  reading-left t e f = left-of buf o g.block first end p g.stands g.size (sym e ∙ not-false t f)
+  pub reading-left : (t : Bool) → t ≡ is_some (rest_at g.block first p) → t ≡ true → Left buf o g.block first end p
+  reading-left t e f = left-of buf o g.block first end p g.stands g.size (sym e ∙ f)
 
   -- the innermost place
   pub reading-last : n ≤ j → (l : Left buf o g.block first end p) → (t : Bool) → t ≡ is_right (read_here (get_or ws 1 0) (get_or ws 2 0) l.rest) → t ≡ is_right (decode_state P ws)
   unfolding read_state on_rest
   reading-last m l t e =
-      e ∙ ap (λ (z : Option Block). is_right (on_rest z (λ r. read_here (get_or ws 1 0) (get_or ws 2 0) r))) (sym l.is)
+      e ∙ ap (λ (z : Possible Block). is_right (on_rest z (λ r. read_here (get_or ws 1 0) (get_or ws 2 0) r))) (sym l.is)
       ∙ ap (λ (hs : List Held). is_right (read_state (get_or ws 1 0) (get_or ws 2 0) hs g.block first p)) (sym (none_left (behind ws j) (omega (arith, g.count)))) ∙ g.same
 
   -- AN ENTRY
@@ -124,82 +122,122 @@ module _ {P : Block} {buf ws : List ℕ} {o n j first end p : ℕ} (g : Reading 
     unfolding read_state on_rest
     entry-reads =
         ap (λ (t : Bool). is_right (read_open (get_or ws 1 0) t here p inside l.rest)) (sym is-last)
-        ∙ ap (λ (z : Option Block). is_right (on_rest z (λ r. read_open (get_or ws 1 0) (is_last (behind ws (j + 1))) here p inside r))) (sym l.is)
+        ∙ ap (λ (z : Possible Block). is_right (on_rest z (λ r. read_open (get_or ws 1 0) (is_last (behind ws (j + 1))) here p inside r))) (sym l.is)
         ∙ ap (λ (hs : List Held). is_right (read_state (get_or ws 1 0) (get_or ws 2 0) hs g.block first p)) (sym is-here) ∙ g.same
 
-    module _ (class : ℕ) (c : ClassOf (get_or ws 1 0) (eqb (j + 1) n) here p l.rest class) where
-      pub reading-class : class < 2 → eqb class 1 ≡ is_right (decode_state P ws)
-      unfolding class_right
-      reading-class f = by-class class f _ _ (c.opens inside) ∙ entry-reads
-        where
-          by-class : (k : ℕ) → k < 2 → (b t : Bool) → b ≡ class_right k t → eqb k 1 ≡ b
-          by-class zero f b t e = ne_eqb 0 1 (λ z. omega arith) ∙ sym e
-          by-class (suc zero) f b t e = eq-eqb 1 1 refl ∙ sym e
-          by-class (suc (suc k)) f b t e = absurd (omega arith)
+    module _ {class : Option Class} (c : ClassOf (get_or ws 1 0) (eqb (j + 1) n) here p l.rest class) where
+      class-reads : class_right class (inside_right inside here p l.rest) ≡ is_right (decode_state P ws)
+      class-reads = sym (c.opens inside) ∙ entry-reads
 
-      module _ (f : 2 ≤ class) where
-        is-inside : Inside class here l.rest
-        is-inside = c.inside f
+      pub reading-wrong : class ≡ None → false ≡ is_right (decode_state P ws)
+      unfolding class_right
+      reading-wrong e = ap (λ (k : Option Class). class_right k (inside_right inside here p l.rest)) (sym e) ∙ class-reads
+
+      pub reading-shut : {k : Class} → class ≡ Some k → inside_of k ≡ None → true ≡ is_right (decode_state P ws)
+      unfolding class_right
+      reading-shut {k} e i = by-class k i ∙ ap (λ (q : Option Class). class_right q (inside_right inside here p l.rest)) (sym e) ∙ class-reads
+        where
+          by-class : (q : Class) → inside_of q ≡ None → true ≡ class_right (Some q) (inside_right inside here p l.rest)
+          by-class Shut e = refl
+          by-class InBlock e = absurd cc
+          by-class InBody e = absurd cc
+
+      module _ {k : Class} (f : class ≡ Some k) {head mark : ℕ} (i : inside_of k ≡ Some (head, mark)) where
+        is-inside : Inside k here l.rest
+        is-inside = c.inside k f (λ s. by-class k s i)
+          where
+            by-class : (q : Class) → q ≡ Shut → inside_of q ≡ Some (head, mark) → ⊥
+            by-class Shut s e = cc
+            by-class InBlock s e = cc
+            by-class InBody s e = cc
 
         -- what is inside is right where the whole is
         inside-reads : inside_right inside here p l.rest ≡ is_right (decode_state P ws)
-        inside-reads = sym (by-class class f (inside_right inside here p l.rest)) ∙ sym (c.opens inside) ∙ entry-reads
+        unfolding class_right
+        inside-reads = by-class k i ∙ ap (λ (q : Option Class). class_right q (inside_right inside here p l.rest)) (sym f) ∙ class-reads
           where
-            by-class : (k : ℕ) → 2 ≤ k → (t : Bool) → class_right k t ≡ t
-            by-class zero f t = absurd (omega arith)
-            by-class (suc zero) f t = absurd (omega arith)
-            by-class (suc (suc k)) f t = unfold class_right in refl
+            by-class : (q : Class) → inside_of q ≡ Some (head, mark) → inside_right inside here p l.rest ≡ class_right (Some q) (inside_right inside here p l.rest)
+            by-class Shut e = absurd cc
+            by-class InBlock e = refl
+            by-class InBody e = refl
+
+        -- the head's length, and what is added to a place
+        of-block : k ≡ InBlock → (head ≡ 4) × (mark ≡ 0)
+        of-block e = let h : ◌≡◌ {A = Option (ℕ × ℕ)} (Some (head, mark)) (Some (4, 0)) = sym i ∙ ap inside_of e in let q : ◌≡◌ {A = ℕ × ℕ} (head, mark) (4, 0) = cc in (ap (λ (z : ℕ × ℕ). z.0) q, ap (λ (z : ℕ × ℕ). z.1) q)
+
+        of-body : k ≡ InBody → (head ≡ 20) × (mark ≡ 2)
+        of-body e = let h : ◌≡◌ {A = Option (ℕ × ℕ)} (Some (head, mark)) (Some (20, 2)) = sym i ∙ ap inside_of e in let q : ◌≡◌ {A = ℕ × ℕ} (head, mark) (20, 2) = cc in (ap (λ (z : ℕ × ℕ). z.0) q, ap (λ (z : ℕ × ℕ). z.1) q)
 
         -- what the code asks of it
-        pub reading-progress : mark_size (eqb class 2) ≤ get_or ws (3 + 6 * j + 5) 0
-        unfolding held_at mark_size
+        reading-progress : mark ≤ get_or ws (3 + 6 * j + 5) 0
+        unfolding held_at
         reading-progress = by-rest l.rest is-inside
           where
-            by-rest : (r : Block) → Inside class here r → mark_size (eqb class 2) ≤ get_or ws (3 + 6 * j + 5) 0
+            by-rest : (r : Block) → Inside k here r → mark ≤ get_or ws (3 + 6 * j + 5) 0
             by-rest empty i = absurd i
             by-rest (assign x y r) i = absurd i
-            by-rest (loop x y q r) i = omega (arith, i.1, ap mark_size (ne_eqb class 2 (λ z. omega (arith, i.0))))
-            by-rest (nest q r) i = omega (arith, ap mark_size (eq-eqb class 2 i))
+            by-rest (loop x y q r) i = omega (arith, i.1, of-body i.0)
+            by-rest (nest q r) i = omega (arith, of-block i)
 
-        pub reading-room : o + p + 4 ≤ length buf
+        reading-room : (o + p + 4 ≤ length buf) × (head ≤ 20)
         reading-room = by-rest l.rest is-inside l.stands
           where
-            by-rest : (r : Block) → Inside class here r → BlockAt buf (o + p) r → o + p + 4 ≤ length buf
+            by-rest : (r : Block) → Inside k here r → BlockAt buf (o + p) r → (o + p + 4 ≤ length buf) × (head ≤ 20)
             by-rest empty i b = absurd i
             by-rest (assign x y r) i b = absurd i
-            by-rest (loop x y q r) i b = let w = loop-view x y q r b in omega (arith, w.room, w.size)
-            by-rest (nest q r) i b = let w = nest-view q r b in omega (arith, w.room, w.size)
+            by-rest (loop x y q r) i b = let w = loop-view x y q r b in (omega (arith, w.room, w.size), omega (arith, of-body i.0))
+            by-rest (nest q r) i b = let w = nest-view q r b in (omega (arith, w.room, w.size), omega (arith, of-block i))
 
         -- inwards
-        pub reading-next : (a e q : ℕ) → a ≡ p + head_size (eqb class 2) → e ≡ p + val (part buf (o + p) 2) → q ≡ get_or ws (3 + 6 * j + 5) 0 - mark_size (eqb class 2) → Reading P buf ws o n (j + 1) a e q
-        unfolding loop-view nest-view head_size inside_right held_at
+        pub reading-next : (a e q : ℕ) → a ≡ p + head → e ≡ p + val (part buf (o + p) 2) → q ≡ get_or ws (3 + 6 * j + 5) 0 - mark → Reading P buf ws o n (j + 1) a e q
+        unfolding loop-view nest-view inside_right held_at
         reading-next a e q fa fe fq = by-rest l.rest is-inside l.stands inside-reads
           where
             moved : (t : Block) (k i : ℕ) → a ≡ k → q ≡ i → is_right (inside t a q) ≡ is_right (inside t k i)
             moved t k i d y = ap₂ (λ (z u : ℕ). is_right (inside t z u)) d y
 
-            by-rest : (r : Block) → Inside class here r → BlockAt buf (o + p) r → inside_right inside here p r ≡ is_right (decode_state P ws) → Reading P buf ws o n (j + 1) a e q
+            by-rest : (r : Block) → Inside k here r → BlockAt buf (o + p) r → inside_right inside here p r ≡ is_right (decode_state P ws) → Reading P buf ws o n (j + 1) a e q
             by-rest empty i b s = absurd i
             by-rest (assign x y r) i b s = absurd i
             by-rest (loop x y t r) i b s =
-                let k : eqb class 2 ≡ false = ne_eqb class 2 (λ z. omega (arith, i.0)) in
-                let d : a ≡ p + 20 = fa ∙ ap (λ (z : Bool). p + head_size z) k in
+                let d : a ≡ p + 20 = fa ∙ ap (λ (z : ℕ). p + z) (of-body i.0).0 in
                 let w = loop-view x y t r b in
                 record {
                   block = t;
                   stands = subst (λ (z : ℕ). BlockAt buf (o + z) t) (sym d) (inside-loop buf o x y t r p b);
                   size = omega (arith, w.stored);
                   count = next-count;
-                  same = moved t (body_at p) (here.progress - mark_size false) d (fq ∙ ap (λ (z : Bool). get_or ws (3 + 6 * j + 5) 0 - mark_size z) k) ∙ s;
+                  same = moved t (body_at p) (here.progress - 2) d (fq ∙ ap (λ (z : ℕ). get_or ws (3 + 6 * j + 5) 0 - z) (of-body i.0).1) ∙ s;
                 }
             by-rest (nest t r) i b s =
-                let k : eqb class 2 ≡ true = eq-eqb class 2 i in
-                let d : a ≡ p + 4 = fa ∙ ap (λ (z : Bool). p + head_size z) k in
+                let d : a ≡ p + 4 = fa ∙ ap (λ (z : ℕ). p + z) (of-block i).0 in
                 let w = nest-view t r b in
                 record {
                   block = t;
                   stands = subst (λ (z : ℕ). BlockAt buf (o + z) t) (sym d) (inside-nest buf o t r p b);
                   size = omega (arith, w.stored);
                   count = next-count;
-                  same = moved t (inside_at p) (here.progress - mark_size true) d (fq ∙ ap (λ (z : Bool). get_or ws (3 + 6 * j + 5) 0 - mark_size z) k) ∙ s;
+                  same = moved t (inside_at p) here.progress d (omega (arith, fq, of-block i)) ∙ s;
                 }
+
+-- THE WORDS OF AN ENTRY are read at once
+
+module _ (ws : List ℕ) (j : ℕ) {words : EntryWords} (e : words ≡ entry_at ws j) where
+  pub of-entry : {waits p : ℕ} {last : Bool} {r : Block} {class : Option Class} → ClassOf waits last (held_of words) p r class → ClassOf waits last (held_at ws (3 + 6 * j)) p r class
+  of-entry {waits} {p} {last} {r} {class} c = subst (λ (h : Held). ClassOf waits last h p r class) (held-of ws j e) c
+
+  pub of-progress : words.progress ≡ get_or ws (3 + 6 * j + 5) 0
+  of-progress = ap (λ (w : EntryWords). w.progress) e
+
+-- WHAT THE CODE ASKS where an entry is entered, of whatever program it is
+pub entered : {buf ws : List ℕ} {o used n j first end p : ℕ} {t : Bool} {words : EntryWords} {class : Option Class} {k : Class} {head mark : ℕ} → (P : Block) × (BlockAt buf o P × (used ≡ o + block_size P))
+    → ((P : Block) → BlockAt buf o P → used ≡ o + block_size P → Reading P buf ws o n j first end p)
+    → ((b : Block) → BlockAt buf (o + first) b → first + block_size b ≡ end → t ≡ is_some (rest_at b first p)) → t ≡ true → j < n → words ≡ entry_at ws j
+    → ((r : Block) → BlockAt buf (o + p) r → p + block_size r ≡ end → ClassOf (get_or ws 1 0) (eqb (j + 1) n) (held_of words) p r class) → class ≡ Some k → inside_of k ≡ Some (head, mark)
+    → (o + p + 4 ≤ length buf) × (head ≤ 20) × (mark ≤ words.progress)
+entered {ws = ws} {j = j} q reads s t m d e f i =
+    let g = reads q.0 q.1.0 q.1.1 in
+    let l = reading-left g _ (s g.block g.stands g.size) t in
+    let c = of-entry ws j d (e l.rest l.stands l.size) in
+    let a = reading-room g m l c f i in
+    (a.0, a.1, omega (arith, reading-progress g m l c f i, of-progress ws j d))

@@ -7,41 +7,25 @@ ghost use Rattle.counting.specs.SmallState.{counts_of, sum_of, top_as};
 ghost use Rattle.counting.specs.StateWords.{unpacked};
 
 use canonical::open_count;
+use state_words::{EntryWords, WORDS, entry};
 
-// The top count of the entry at word e.
-fn top_above(words: &[u32], e: usize, largest: u32) -> bool
-    requires { (e + 6 ≤ length words.now) × (length words.now ≤ 189) }
-    ensures { result ≡ not (small_values (up_to largest) (top_as (get_or words.now e 0) (get_or words.now (e + 2) 0) [])) }
+// The top count of an entry.
+fn top_above(entry: EntryWords, largest: u32) -> bool
+    ensures { result ≡ not (small_values (up_to largest) (top_as entry.what entry.top [])) }
 {
-    if words[e] != 2 {
-        return false;
-    }
-    largest < words[e + 2]
+    entry.what == 2 && largest < entry.top
 }
 
 // The sum.
-fn sum_above(words: &[u32], largest: u32) -> bool
-    requires { length words.now ≡ 189 }
+fn sum_above(words: &[u32; WORDS], largest: u32) -> bool
     ensures { result ≡ not (small_values (up_to largest) (sum_of (get_or words.now 1 0) (get_or words.now 2 0))) }
 {
-    if words[1] == 0 {
-        return false;
-    }
-    largest < words[2]
+    words[1] != 0 && largest < words[2]
 }
 
 // All of them.
-pub fn counts_above(words: &[u32], largest: u32) -> bool
-    requires { length words.now ≡ 189 }
+pub fn counts_above(words: &[u32; WORDS], largest: u32) -> bool
     ensures { result ≡ not (small_values (up_to largest) (counts_of (unpacked words.now))) }
 {
-    let n = open_count(words);
-    let mut j = 0;
-    while j < n {
-        if top_above(words, 3 + 6 * j, largest) {
-            return true;
-        }
-        j += 1;
-    }
-    sum_above(words, largest)
+    (0..open_count(words)).any(|j| top_above(entry(words, j), largest)) || sum_above(words, largest)
 }

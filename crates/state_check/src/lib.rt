@@ -1,5 +1,5 @@
 // Whether words hold a state of the program (02 C-14, refusal 13): the entries from the outermost inwards, over the words and
-// the program's bytes. A place is counted from the program's first command, which stands at `start`.
+// the program's bytes.
 #![tactic(auto)]
 
 pub mod counts;
@@ -10,166 +10,152 @@ ghost use Rattle.rules.specs.Syntax.{Block};
 ghost use Rattle.place.specs.ProgramView.{BlockAt};
 ghost use Rattle.counting.specs.Place.{rest_at};
 ghost use Rattle.counting.specs.ReadState.{is_right, read_here};
-ghost use Rattle.counting.specs.StateWords.{decode_state, held_at};
-ghost use Rattle.state_check.specs.Class.{ClassOf, head_size, is_some, loop_class, mark_size, only_if, shut_class};
+ghost use Rattle.counting.specs.StateWords.{decode_state};
+ghost use Rattle.canonical.specs.Canonical.{held_of};
+ghost use Rattle.state_check.specs.Class.{ClassOf, inside_of, is_some, loop_class, shut_class};
 
 use canonical::open_count;
-use record::kind::{ASSIGNMENT, BLOCK, VARIABLE};
-use state_words::word;
+use record::kind::Kind;
+use state_words::program::Program;
+use state_words::{EntryWords, WORDS, entry};
 
-// The classes of an entry: wrong; right, with nothing inside it to be read; right so far, a block or a loop at a place in its
-// body, with what is inside still to be read.
-const WRONG: u32 = 0;
+// What an entry is that is right so far: a loop with nothing inside it to be read, or a block or a loop at a place in its body,
+// with what is inside still to be read.
+#[derive(Clone, Copy, Drop)]
+enum Class {
+    Shut,
+    InBlock,
+    InBody,
+}
 
-const SHUT: u32 = 1;
-
-const IN_BLOCK: u32 = 2;
-
-const IN_BODY: u32 = 3;
-
-// Whether a command or the end stands at the place p, of the commands from the place `first` to `end`.
-fn stands_at(buf: &[u8], start: usize, first: usize, end: usize, p: usize) -> bool
-    requires { ((b : Block) × (BlockAt buf.now (start + first) b × (first + block_size b ≡ end))) × (length buf.now ≤ 16384) }
-    ensures { (b : Block) → BlockAt buf.now (start + first) b → first + block_size b ≡ end → result ≡ is_some (rest_at b first p) }
-{
-    let mut q = first;
-    while q < end {
-        if p == q {
-            return true;
+impl Class {
+    // The length of the head before what is inside, and what is added to a place there where it is held.
+    fn inside(self) -> Option<(usize, usize)>
+        ensures { result ≡ inside_of self }
+    {
+        match self {
+            Class::Shut => None,
+            Class::InBlock => Some((4, 0)),
+            Class::InBody => Some((20, 2)),
         }
-        q += buffer::get_u16(buf, start + q);
-    }
-    p == q
-}
-
-// The class c where the test holds.
-fn only_if(test: bool, c: u32) -> u32
-    ensures { result ≡ only_if test c }
-{
-    if test { c } else { WRONG }
-}
-
-// The class of a loop within which nothing can be open and no sum can wait.
-fn shut_class(last: bool, waits: usize) -> u32
-    ensures { result ≡ shut_class last waits }
-{
-    if last {
-        only_if(waits == 0, SHUT)
-    } else {
-        WRONG
     }
 }
 
-// The class of a loop in play, by whether it is running, the count it has reached and its progress.
-fn loop_class(running: usize, reached: usize, progress: usize, shut: u32) -> u32
-    ensures { result ≡ loop_class running reached progress shut }
-{
-    if running == 0 {
-        return only_if(progress == 0, shut);
-    }
-    if reached == 0 {
-        return only_if(progress == 0, shut);
-    }
-    if progress < 2 {
-        return only_if(progress == 1, shut);
-    }
-    IN_BODY
-}
-
-// The class of the entry at word e, where something is left of its holder from the place p to `end`.
-fn entry_class(
-    buf: &[u8],
-    start: usize,
-    words: &[u32],
-    e: usize,
-    last: bool,
+// A place p in the innermost holder that is known so far, of which the commands stand from the place `first` to `end`.
+#[derive(Clone, Copy, Drop)]
+struct Inner {
+    first: usize,
     end: usize,
     p: usize,
-) -> u32
-    requires { ((r : Block) × (BlockAt buf.now (start + p) r × (p + block_size r ≡ end))) × (length buf.now ≤ 16384) × (3 ≤ e) × (e + 6 ≤ length words.now) × (length words.now ≤ 189) }
-    ensures { (r : Block) → BlockAt buf.now (start + p) r → p + block_size r ≡ end → ClassOf (get_or words.now 1 0) last (held_at words.now e) p r result }
-{
-    if p == end {
-        return WRONG;
-    }
-    if word(words, e + 1) != p {
-        return WRONG;
-    }
-    let what = word(words, e);
-    let kind = buffer::get_u16(buf, start + p + 2);
-    if kind == ASSIGNMENT {
-        return WRONG;
-    }
-    if kind == BLOCK {
-        return only_if(what == 1, IN_BLOCK);
-    }
-    if what != 2 {
-        return WRONG;
-    }
-    let reached = word(words, e + 3);
-    if word(words, e + 2) < reached {
-        return WRONG;
-    }
-    let shut = shut_class(last, word(words, 1));
-    loop_class(word(words, e + 4), reached, word(words, e + 5), shut)
 }
 
-// Whether what waits at the innermost place p can: nothing, or a sum where a plus one or minus one stands.
-fn last_right(buf: &[u8], start: usize, words: &[u32], end: usize, p: usize) -> bool
-    requires { ((r : Block) × (BlockAt buf.now (start + p) r × (p + block_size r ≡ end))) × (length buf.now ≤ 16384) × (3 ≤ length words.now) }
-    ensures { (r : Block) → BlockAt buf.now (start + p) r → p + block_size r ≡ end → result ≡ is_right (read_here (get_or words.now 1 0) (get_or words.now 2 0) r) }
+// Whether a command or the end stands there.
+fn stands_at(program: Program, at: Inner) -> bool
+    requires { ((b : Block) × (BlockAt program.bytes.now (program.start + at.first) b × (at.first + block_size b ≡ at.end))) × (length program.bytes.now ≤ 16384) }
+    ensures { (b : Block) → BlockAt program.entry.bytes.now (program.entry.start + at.first) b → at.first + block_size b ≡ at.end → result ≡ is_some (rest_at b at.first at.p) }
 {
-    if word(words, 1) == 0 {
+    let mut q = at.first;
+    // Kept: a walk from command to command, by the length that each begins with; an iterator would need a closure that hands on the place.
+    while q < at.end {
+        if at.p == q {
+            return true;
+        }
+        q += program.size_at(q);
+    }
+    at.p == q
+}
+
+// A loop within which nothing can be open and no sum can wait.
+#[tactic(auto, unfolding(crate::specs::Class::shut_class))]
+fn shut_class(last: bool, waits: u32) -> Option<Class>
+    ensures { result ≡ shut_class last waits }
+{
+    (last && waits == 0).then_some(Class::Shut)
+}
+
+// A loop in play: nothing is inside it where it unrolls, has reached no count or has its index still to be stored.
+#[tactic(auto, unfolding(crate::specs::Class::loop_class))]
+fn loop_class(entry: EntryWords, shut: Option<Class>) -> Option<Class>
+    ensures { result ≡ loop_class entry.running entry.reached entry.progress shut }
+{
+    match (entry.running, entry.reached, entry.progress) {
+        (0, _, 0) | (_, 0, 0) | (1.., 1.., 1) => shut,
+        (1.., 1.., 2..) => Some(Class::InBody),
+        _ => None,
+    }
+}
+
+// An entry, where something is left of its holder from the place p to `end`: None where it is wrong. Whether it is the last, and
+// whether a sum waits, which is where that is not 0.
+fn entry_class(
+    program: Program,
+    at: Inner,
+    entry: EntryWords,
+    last: bool,
+    waits: u32,
+) -> Option<Class>
+    requires { (r : Block) × (BlockAt program.bytes.now (program.start + at.p) r × (at.p + block_size r ≡ at.end)) }
+    ensures { (r : Block) → BlockAt program.entry.bytes.now (program.entry.start + at.p) r → at.p + block_size r ≡ at.end → ClassOf waits last (held_of entry) at.p r result }
+{
+    if at.p == at.end || entry.at as usize != at.p {
+        return None;
+    }
+    match program.record_at(at.p) {
+        Kind::Assignment => None,
+        Kind::Block => (entry.what == 1).then_some(Class::InBlock),
+        _ => {
+            if entry.what != 2 || entry.top < entry.reached {
+                return None;
+            }
+            loop_class(entry, shut_class(last, waits))
+        }
+    }
+}
+
+// Whether what waits at the innermost place can: nothing, or a sum where a plus one or minus one stands.
+fn last_right(program: Program, words: &[u32; WORDS], at: Inner) -> bool
+    requires { (r : Block) × (BlockAt program.bytes.now (program.start + at.p) r × (at.p + block_size r ≡ at.end)) }
+    ensures { (r : Block) → BlockAt program.entry.bytes.now (program.entry.start + at.p) r → at.p + block_size r ≡ at.end → result ≡ is_right (read_here (get_or words.now 1 0) (get_or words.now 2 0) r) }
+{
+    if words[1] == 0 {
         return true;
     }
-    if p == end {
+    if at.p == at.end {
         return false;
     }
-    if buffer::get_u16(buf, start + p + 2) != ASSIGNMENT {
-        return false;
+    match program.record_at(at.p) {
+        Kind::Assignment => matches!(program.kind_at(at.p), Kind::PlusOne | Kind::MinusOne),
+        _ => false,
     }
-    VARIABLE < buffer::get_u16(buf, start + p + 10)
 }
 
-// The length of the head of a block's record, or of a loop's up to its body.
-fn head_size(block: bool) -> usize
-    ensures { result ≡ head_size block }
-{
-    if block { 4 } else { 20 }
-}
-
-// What is added to a place inside a block, or in a loop's body, where it is held.
-fn mark_size(block: bool) -> usize
-    ensures { result ≡ mark_size block }
-{
-    if block { 0 } else { 2 }
-}
-
-// Whether the words hold a state of the program, whose first command stands at `start` and whose record ends at `used`.
-pub fn check_state(buf: &[u8], used: usize, words: &[u32], start: usize) -> bool
-    requires { ((P : Block) × (BlockAt buf.now start P × (used ≡ start + block_size P))) × (length buf.now ≤ 16384) × (used ≤ length buf.now) × (length words.now ≡ 189) }
-    ensures { (P : Block) → BlockAt buf.now start P → used ≡ start + block_size P → result ≡ is_right (decode_state P words.now) }
+// Whether the words hold a state of the program.
+pub fn check_state(program: Program, words: &[u32; WORDS]) -> bool
+    requires { ((P : Block) × (BlockAt program.bytes.now program.start P × (program.used ≡ program.start + block_size P))) × (length program.bytes.now ≤ 16384) × (program.used ≤ length program.bytes.now) }
+    ensures { (P : Block) → BlockAt program.entry.bytes.now program.entry.start P → program.entry.used ≡ program.entry.start + block_size P → result ≡ is_right (decode_state P words.now) }
 {
     let n = open_count(words);
-    let mut j = 0;
-    let mut first = 0;
-    let mut end = used - start;
-    let mut p = word(words, 0);
-    while j < n {
-        if !stands_at(buf, start, first, end, p) {
+    let mut at = Inner {
+        first: 0,
+        end: program.used - program.start,
+        p: words[0] as usize,
+    };
+    for j in 0..n {
+        if !stands_at(program, at) {
             return false;
         }
-        let class = entry_class(buf, start, words, 3 + 6 * j, j + 1 == n, end, p);
-        if class < IN_BLOCK {
-            return class == SHUT;
-        }
-        first = p + head_size(class == IN_BLOCK);
-        end = p + buffer::get_u16(buf, start + p);
-        p = word(words, 3 + 6 * j + 5) - mark_size(class == IN_BLOCK);
-        j += 1;
+        let entry = entry(words, j);
+        let Some(class) = entry_class(program, at, entry, j + 1 == n, words[1]) else {
+            return false;
+        };
+        let Some((head, mark)) = class.inside() else {
+            return true;
+        };
+        at = Inner {
+            first: at.p + head,
+            end: at.p + program.size_at(at.p),
+            p: entry.progress as usize - mark,
+        };
     }
-    if !stands_at(buf, start, first, end, p) {
-        return false;
-    }
-    last_right(buf, start, words, end, p)
+    stands_at(program, at) && last_right(program, words, at)
 }

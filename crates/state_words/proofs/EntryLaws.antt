@@ -1,15 +1,18 @@
 -- Laws of the edits of words.
 use Prim.Native.Nat.{◌*◌, ◌+◌, ◌-◌, ◌≤◌, suc, zero, ℕ}
-use mathlib.Core.Path.{ap, refl, sym, ◌∙◌, ◌≡◌}
+use mathlib.Core.Path.{ap, ap₂, refl, sym, ◌∙◌, ◌≡◌}
 use mathlib.Core.Bool.{Bool, false, true}
 use mathlib.Core.List.{List}
+use borrow.Author.Tests.{ne_eqb}
 use lib.Dec.{eqb}
+use mir.Val.{bool_byte}
 use lib.ListN.{get_or, length, length-set, set}
 use native.Mathlib.Omega.{arith}
 use Rattle.counting.specs.Frames.{place_word}
 use Rattle.counting.specs.Held.{held_block, held_loop}
 use Rattle.counting.proofs.WordEdits.{no_entry, put_entry}
-use Rattle.state_words.specs.Entry.{entry_popped, entry_pushed, entry_put, last_loop, mark_by, place_in, place_put, unmark_by}
+use Rattle.state_words.specs.declared.EntryWords.{EntryWords}
+use Rattle.state_words.specs.Entry.{entry_in_play, entry_popped, entry_pushed, entry_put, last_loop, mark_by, place_in, place_put, unmark_by}
 
 -- THE PLACE
 
@@ -72,6 +75,14 @@ module _ (ws : List ℕ) where
   put-length n p = length-set ws (place_word n) (mark_by (last_loop ws n) p)
 
 -- AN ENTRY
+
+abbrev in_play : ℕ → ℕ → ℕ → ℕ → EntryWords
+in_play at turns reached running = record { what = 2; at = at; top = turns; reached = reached; running = running; progress = 0 }
+
+pub in_play-is : (at turns reached running : ℕ) → reached ≡ turns - 1 → running ≡ bool_byte (eqb turns 0) → in_play at turns reached running ≡ entry_in_play at turns
+unfolding entry_in_play
+in_play-is at zero r u e f = ap₂ (in_play at 0) e f
+in_play-is at (suc t) r u e f = let g : r ≡ t = omega arith in ap₂ (in_play at (suc t)) g (f ∙ ap bool_byte (ne_eqb (suc t) 0 (λ z. omega arith)))
 
 pub length-put : (l : List ℕ) (i what at top reached running progress : ℕ) → length (entry_put l i what at top reached running progress) ≡ length l
 unfolding entry_put

@@ -1,23 +1,19 @@
 -- What is left of a walk over a row, turn by turn.
-use Prim.Native.Nat.{◌*◌, ◌+◌, ◌-◌, ◌<◌, ◌≤◌, ℕ}
+use Prim.Native.Nat.{◌*◌, ◌+◌, ◌<◌, ◌≤◌, ◌^◌, ℕ}
 use mathlib.Core.Path.{◌≡◌, ap, refl, subst, sym, ◌∙◌}
-use mathlib.Core.Logic.{◌⊎◌, ⊎_elim}
+use mathlib.Core.Logic.{inl, inr, ◌⊎◌}
 use mathlib.Core.Bool.{Bool, false, true}
 use mathlib.Core.List.{List}
 use borrow.Author.Tests.{eqb-false, eqb-true}
 use lib.Dec.{eqb}
 use lib.ListN.{length}
-use native.Mathlib.Nat.{mul-le-mul}
 use native.Mathlib.Omega.{arith}
 use Rattle.place.proofs.ProgramViewLaws.{row-empty}
 use Rattle.rules.specs.Evaluate.{assign_steps}
 use Rattle.rules.specs.Syntax.{Block, empty}
 use Rattle.forecast.specs.Figures.{loop_steps, steps_of}
 use Rattle.forecast.specs.Rows.{Opened, RowOf, opens_assign, opens_loop, opens_nest}
-use Rattle.step_forecast.specs.Wide.{as_wide, too_large, wide}
-use Rattle.step_forecast.specs.declared.Steps.{Steps}
-use Rattle.step_forecast.specs.declared.Steps.TheVariants.{Number, TooLarge}
-use Rattle.step_forecast.proofs.WideLaws.{steps-large, steps-number, wide-large, wide-small}
+use Rattle.step_forecast.specs.declared.Part.{Part}
 
 -- THE FIRST COMMAND'S STEPS, those inside it and those behind it
 
@@ -77,177 +73,148 @@ parts-of {s = s} {b = b} {turns = turns} (opens_nest c r is o t i h k) =
       steps = omega arith;
     }
 
--- WHAT IS LEFT of the block b, of which a + m times its steps is to be found: a row, to be counted `times` times on top of `found`
+-- WHAT IS LEFT of the block b, of which a + whole.times times its steps is to be found: a row, to be counted on top of `found`
 
-pub record Left (l s : List ℕ) (from to : ℕ) (b : Block) (a m at end found times : ℕ) : Type 0 where
+-- the part is the row of the block b, or empty where that has nothing to count
+pub record PartOf (l s : List ℕ) (p : Part) (b : Block) : Type 0 where
+  pub row : p.from < p.to → RowOf l (length s) p.from p.to b
+  pub none : p.to ≤ p.from → p.times * steps_of s b ≡ 0
+
+pub record Left (l s : List ℕ) (whole : Part) (b : Block) (a : ℕ) (left : Part) (found : ℕ) : Type 0 where
   pub block : Block
-  pub row : RowOf l (length s) at end block
-  pub low : from ≤ at
-  pub high : end ≤ to
-  pub runs : 1 ≤ times
-  pub small : found < 18446744073709551616
-  pub same : found + times * steps_of s block ≡ a + m * steps_of s b
+  pub part : PartOf l s left block
+  pub low : whole.from ≤ left.from
+  pub high : left.to ≤ whole.to
+  pub small : found < 2 ^ 64
+  pub same : found + left.times * steps_of s block ≡ a + whole.times * steps_of s b
 
--- The same once a command is opened and its own steps are counted: one row for a call, from `start` to `stop`, each of whose steps counts
--- `each` times, and one that stays, from `at` to `end`. Both are shorter than the row that was opened, from p to q.
-pub record Halves (l s : List ℕ) (from to : ℕ) (b : Block) (a m p q sum start stop each at end times : ℕ) : Type 0 where
-  pub called : Block
-  pub kept : Block
-  pub call-row : start < stop → RowOf l (length s) start stop called
-  pub often : start < stop → 1 ≤ each
-  pub none : stop ≤ start → each * steps_of s called ≡ 0
-  pub row : RowOf l (length s) at end kept
-  pub low : from ≤ at
-  pub high : end ≤ to
-  pub less : end + p < q + at
-  pub shorter : stop + from < to + start
-  pub runs : 1 ≤ times
-  pub small : sum < 18446744073709551616
-  pub same : sum + each * steps_of s called + times * steps_of s kept ≡ a + m * steps_of s b
-
-pub left-start : {l : List ℕ} (s : List ℕ) {from to : ℕ} {b : Block} (a m : ℕ) → RowOf l (length s) from to b → 1 ≤ m → a < 18446744073709551616 → Left l s from to b a m from to a m
-left-start s {b = b} a m h g f = record { block = b; row = h; low = omega arith; high = omega arith; runs = g; small = f; same = refl }
+-- The same once a command of the row `opened` is opened and its own steps are counted: one row for a call, and one that stays. Both are
+-- shorter than the row that was opened.
+pub record Halves (l s : List ℕ) (whole : Part) (b : Block) (a : ℕ) (opened : Part) (sum : ℕ) (called kept : Part) : Type 0 where
+  pub called_block : Block
+  pub kept_block : Block
+  pub called_part : PartOf l s called called_block
+  pub kept_part : PartOf l s kept kept_block
+  pub low : whole.from ≤ kept.from
+  pub high : kept.to ≤ whole.to
+  pub less : kept.to + opened.from < opened.to + kept.from
+  pub shorter : called.to + whole.from < whole.to + called.from
+  pub small : sum < 2 ^ 64
+  pub same : sum + called.times * steps_of s called_block + kept.times * steps_of s kept_block ≡ a + whole.times * steps_of s b
 
 -- nothing is left
 done-steps : {l : List ℕ} (s : List ℕ) {p q : ℕ} {b : Block} → RowOf l (length s) p q b → q ≤ p → steps_of s b ≡ 0
 unfolding steps_of
 done-steps s {p = p} {q = q} {b = b} h e = ap (steps_of s) (row-empty b p q h.ends e)
 
-still-large : {r : Steps} {x : ℕ} (y : ℕ) → as_wide r ≡ wide x → r ≡ TooLarge → x ≤ y → too_large ≡ wide y
-still-large y says e l = sym (wide-large y (omega (arith, steps-large says e)))
+row-part : {l : List ℕ} (s : List ℕ) {p : Part} {b : Block} → RowOf l (length s) p.from p.to b → PartOf l s p b
+row-part s {p} h = record { row = λ _. h; none = λ e. ap (λ (j : ℕ). p.times * j) (done-steps s h e) ∙ omega arith }
 
--- the same numbers under other names
-same-halves : {l s : List ℕ} {from to : ℕ} {b : Block} {a m p q sum start stop each at end times start' stop' each' at' end' times' : ℕ}
-    → Halves l s from to b a m p q sum start stop each at end times
-    → start' ≡ start → stop' ≡ stop → each' ≡ each → at' ≡ at → end' ≡ end → times' ≡ times → Halves l s from to b a m p q sum start' stop' each' at' end' times'
-same-halves H e f g h i j = rw (e, f, g, h, i, j) H
+pub left-start : {l : List ℕ} (s : List ℕ) {whole : Part} {b : Block} (a : ℕ) → RowOf l (length s) whole.from whole.to b → a < 2 ^ 64 → Left l s whole b a whole a
+left-start s {b = b} a h f = record { block = b; part = row-part s h; low = omega arith; high = omega arith; small = f; same = refl }
 
-module _ {l s : List ℕ} {from to : ℕ} {b : Block} {a m p q found times : ℕ} (L : Left l s from to b a m p q found times) where
-  -- the walk is at its end
-  pub left_end : q ≤ p → as_wide (Number found) ≡ wide (a + m * steps_of s b)
-  left_end e =
-      let z : times * steps_of s L.block ≡ 0 = ap (λ (j : ℕ). times * j) (done-steps s L.row e) ∙ omega arith in
-      sym (wide-small found L.small) ∙ ap wide {x = found} {y = a + m * steps_of s b} (omega (arith, L.same))
-
-  module _ {own turns inner next : ℕ} (O : Opened l s p q L.block own turns inner next) where
-    parts : Parts l s p q L.block own turns inner next
+module _ {l s : List ℕ} {whole : Part} {b : Block} {a : ℕ} {left : Part} {found : ℕ} (L : Left l s whole b a left found) where
+  module _ {own turns inner next : ℕ} (O : Opened l s left.from left.to L.block own turns inner next) where
+    parts : Parts l s left.from left.to L.block own turns inner next
     parts = parts-of O
 
-    total : a + m * steps_of s b ≡ found + times * own + times * turns * steps_of s parts.inside + times * steps_of s parts.rest
-    total = sym L.same ∙ ap (λ (j : ℕ). found + times * j) parts.steps ∙ omega arith
+    total : a + whole.times * steps_of s b ≡ found + left.times * own + left.times * turns * steps_of s parts.inside + left.times * steps_of s parts.rest
+    total = sym L.same ∙ ap (λ (j : ℕ). found + left.times * j) parts.steps ∙ omega arith
 
     -- its own steps are too many
-    pub own-large : {r : Steps} → as_wide r ≡ wide (found + times * own) → r ≡ TooLarge → too_large ≡ wide (a + m * steps_of s b)
-    own-large says e = still-large (a + m * steps_of s b) says e (omega (arith, total))
+    pub own-large : (found + left.times * own < 2 ^ 64 → ⊥) → a + whole.times * steps_of s b < 2 ^ 64 → ⊥
+    own-large large small = large (omega (arith, total))
 
     -- what is run inside starts behind the command's own start, and nothing overlaps
     module _ {start : ℕ} (from_start : (turns ≡ 0 → start ≡ next) × ((turns ≡ 0 → ⊥) → start ≡ inner)) where
-      pub in_order : (p < start) × (start ≤ next) × (next ≤ q)
+      pub in_order : (left.from < start) × (start ≤ next) × (next ≤ left.to)
       in_order = go (eqb turns 0) refl
         where
-          go : (t : Bool) → eqb turns 0 ≡ t → (p < start) × (start ≤ next) × (next ≤ q)
+          go : (t : Bool) → eqb turns 0 ≡ t → (left.from < start) × (start ≤ next) × (next ≤ left.to)
           go true c = let e = from_start.0 (eqb-true turns 0 c) in omega (arith, parts.past, parts.order, parts.last)
           go false c = let e = from_start.1 (eqb-false turns 0 c) in omega (arith, parts.past, parts.order, parts.last)
 
-    module _ {r : Steps} (says : as_wide r ≡ wide (found + times * own)) {sum : ℕ} (is : r ≡ Number sum) where
-      summed : (sum ≡ found + times * own) × (found + times * own < 18446744073709551616)
-      summed = steps-number says is
-
-      -- how often what is inside is run is a number of 64 bits
-      pub factor : times * turns < 18446744073709551616
-      factor = let g : times * turns ≤ times * own = mul-le-mul (omega arith) parts.once in omega (arith, summed.1)
-
+    module _ {sum : ℕ} (summed : (found + left.times * own < 2 ^ 64) × (sum ≡ found + left.times * own)) where
       module _ {start : ℕ} (from_start : (turns ≡ 0 → start ≡ next) × ((turns ≡ 0 → ⊥) → start ≡ inner)) where
-        turning : start < next → turns ≡ 0 → ⊥
-        turning g e = omega (arith, from_start.0 e)
+        abbrev inside : Part
+        inside = record { from = start; to = next; times = left.times * turns }
 
-        once_more : start < next → 1 ≤ times * turns
-        once_more g = let f = turning g in let j : 1 ≤ turns = omega arith in let k : 1 * 1 ≤ times * turns = mul-le-mul L.runs j in omega arith
+        abbrev behind : Part
+        behind = record { from = next; to = left.to; times = left.times }
 
-        inside-row : start < next → RowOf l (length s) start next parts.inside
-        inside-row g = subst (λ (i : ℕ). RowOf l (length s) i next parts.inside) (sym (from_start.1 (turning g))) (parts.within (turning g))
+        inside-part : PartOf l s inside parts.inside
+        inside-part = go (eqb turns 0) refl
+          where
+            go : (t : Bool) → eqb turns 0 ≡ t → PartOf l s inside parts.inside
+            go true c = let z = eqb-true turns 0 c in record {
+              row = λ g. absurd (omega (arith, from_start.0 z));
+              none = λ e. ap (λ (j : ℕ). left.times * j * steps_of s parts.inside) z ∙ omega arith;
+            }
+            go false c = let n = eqb-false turns 0 c in
+                row-part s (subst (λ (i : ℕ). RowOf l (length s) i next parts.inside) (sym (from_start.1 n)) (parts.within n))
 
         -- what is inside by the call, what is behind by the loop
-        pub inside-called : Halves l s from to b a m p q sum start next (times * turns) next q times
+        inside-called : Halves l s whole b a left sum inside behind
         inside-called =
             let o = in_order from_start in
             record {
-              called = parts.inside;
-              kept = parts.rest;
-              call-row = inside-row;
-              often = once_more;
-              none = λ e. go e (eqb turns 0) refl;
-              row = parts.behind;
+              called_block = parts.inside;
+              kept_block = parts.rest;
+              called_part = inside-part;
+              kept_part = row-part s parts.behind;
               low = omega (arith, L.low);
               high = L.high;
               less = omega arith;
               shorter = omega (arith, L.low, L.high);
-              runs = L.runs;
               small = omega (arith, summed);
-              same = omega (arith, summed.0, total);
+              same = omega (arith, summed.1, total);
             }
-          where
-            go : next ≤ start → (t : Bool) → eqb turns 0 ≡ t → times * turns * steps_of s parts.inside ≡ 0
-            go e true c = ap (λ (j : ℕ). times * j * steps_of s parts.inside) (eqb-true turns 0 c) ∙ omega arith
-            go e false c =
-                let n = eqb-false turns 0 c in
-                ap (λ (j : ℕ). times * turns * j) (done-steps s (parts.within n) (omega (arith, from_start.1 n))) ∙ omega arith
 
         -- what is behind by the call, what is inside by the loop
-        pub behind-called : start < next → Halves l s from to b a m p q sum next q times start next (times * turns)
-        behind-called g =
+        behind-called : Halves l s whole b a left sum behind inside
+        behind-called =
             let o = in_order from_start in
             record {
-              called = parts.rest;
-              kept = parts.inside;
-              call-row = λ e. parts.behind;
-              often = λ e. L.runs;
-              none = λ e. ap (λ (j : ℕ). times * j) (done-steps s parts.behind e) ∙ omega arith;
-              row = inside-row g;
+              called_block = parts.rest;
+              kept_block = parts.inside;
+              called_part = row-part s parts.behind;
+              kept_part = inside-part;
               low = omega (arith, L.low);
               high = omega (arith, L.high);
               less = omega arith;
               shorter = omega (arith, L.low, L.high);
-              runs = once_more g;
               small = omega (arith, summed);
-              same = omega (arith, summed.0, total);
+              same = omega (arith, summed.1, total);
             }
 
-        -- by the arm that the code took, with the numbers that it has then
-        pub halves : {T U : Type 0} {start' stop each at end times' : ℕ}
-            → ◌⊎◌ (T × (at ≡ start) × (end ≡ next) × (times' ≡ times * turns) × (start' ≡ next) × (stop ≡ q) × (each ≡ times))
-            (U × (at ≡ next) × (end ≡ q) × (times' ≡ times) × (start' ≡ start) × (stop ≡ next) × (each ≡ times * turns))
-            → (T → q - next < next - start) → Halves l s from to b a m p q sum start' stop each at end times'
-        halves came test =
-            ⊎_elim (λ w. same-halves (behind-called (omega (arith, test w.0, in_order from_start))) w.4 w.5 w.6 w.1 w.2 w.3)
-            (λ w. same-halves inside-called w.4 w.5 w.6 w.1 w.2 w.3) came
+        -- in whichever order the code takes them
+        pub halves : {r : Part × Part} → ((r ≡ (inside, behind)) ⊎ (r ≡ (behind, inside))) → Halves l s whole b a left sum r.0 r.1
+        halves (inl e) = rw e inside-called
+        halves (inr e) = rw e behind-called
 
 -- THE CALL
 
-module _ {l s : List ℕ} {from to : ℕ} {b : Block} {a m p q sum start stop each at end times : ℕ} (H : Halves l s from to b a m p q sum start stop each at end times) where
+module _ {l s : List ℕ} {whole : Part} {b : Block} {a : ℕ} {opened : Part} {sum : ℕ} {called kept : Part} (H : Halves l s whole b a opened sum called kept) where
   -- none is made
-  pub halves-none : stop ≤ start → Left l s from to b a m at end sum times
+  pub halves-none : called.to ≤ called.from → Left l s whole b a kept sum
   halves-none e = record {
-    block = H.kept;
-    row = H.row;
+    block = H.kept_block;
+    part = H.kept_part;
     low = H.low;
     high = H.high;
-    runs = H.runs;
     small = H.small;
-    same = omega (arith, H.none e, H.same);
+    same = omega (arith, H.called_part.none e, H.same);
   }
 
-  module _ {r : Steps} (says : as_wide r ≡ wide (sum + each * steps_of s H.called)) where
-    pub halves-large : r ≡ TooLarge → too_large ≡ wide (a + m * steps_of s b)
-    halves-large e = still-large (a + m * steps_of s b) says e (omega (arith, H.same))
+  pub halves-large : (sum + called.times * steps_of s H.called_block < 2 ^ 64 → ⊥) → a + whole.times * steps_of s b < 2 ^ 64 → ⊥
+  halves-large large small = large (omega (arith, H.same))
 
-    pub halves-done : {more : ℕ} → r ≡ Number more → Left l s from to b a m at end more times
-    halves-done e = let v = steps-number says e in record {
-      block = H.kept;
-      row = H.row;
-      low = H.low;
-      high = H.high;
-      runs = H.runs;
-      small = omega arith;
-      same = omega (arith, H.same);
-    }
+  pub halves-done : {more : ℕ} → (sum + called.times * steps_of s H.called_block < 2 ^ 64) × (more ≡ sum + called.times * steps_of s H.called_block) → Left l s whole b a kept more
+  halves-done v = record {
+    block = H.kept_block;
+    part = H.kept_part;
+    low = H.low;
+    high = H.high;
+    small = omega arith;
+    same = omega (arith, H.same);
+  }

@@ -1,6 +1,6 @@
 -- The first command of a row, by its kind.
 use Prim.Native.Nat.{◌*◌, ◌+◌, ◌<◌, ◌≤◌, ℕ}
-use mathlib.Core.Path.{◌≡◌, ap, refl, subst, sym, ◌∙◌}
+use mathlib.Core.Path.{◌≡◌, ap, refl, subst, sym}
 use mathlib.Core.Bool.{Bool, false, true}
 use mathlib.Core.List.{List}
 use borrow.Author.Tests.{eqb-false, eqb-true}
@@ -10,9 +10,9 @@ use native.Mathlib.Omega.{arith}
 use Rattle.buffer.specs.LittleEndian.{val}
 use Rattle.buffer.specs.Slice.{part}
 use Rattle.record.specs.Program.{block_size, expr_kind}
-use Rattle.place.specs.ProgramView.{AssignView, BlockAt, CommandView, LoopView, NestView, first_assign, first_loop, first_nest}
+use Rattle.place.specs.ProgramView.{AssignView, BlockAt, LoopView, NestView}
 use Rattle.place.proofs.ProgramBytesLaws.{block_size-some, expr_kind-range, kind-dec, kind-inc, kind-lit, kind-var}
-use Rattle.place.proofs.ProgramViewLaws.{as-assign, as-loop, as-nest, block-index, block_room, block_same, command-kind, command-view}
+use Rattle.place.proofs.ProgramViewLaws.{as-assign, as-loop, as-nest, block-index, block_room, block_same, command-kind}
 use Rattle.rules.specs.Evaluate.{assign_steps}
 use Rattle.rules.specs.Scope.{BlockWithin, BoundWithin}
 use Rattle.rules.specs.Step.{bound_value}
@@ -21,9 +21,9 @@ use Rattle.forecast.specs.Rows.{Opened, RowOf, opens_assign, opens_loop, opens_n
 
 -- AN ASSIGNMENT'S STEPS, by its expression's kind
 
-pub steps-one : (e : Expr) → expr_kind e < 18 → 1 ≡ assign_steps e
+pub steps-one : (e : Expr) → (expr_kind e ≡ 18 → ⊥) → (expr_kind e ≡ 19 → ⊥) → 1 ≡ assign_steps e
 unfolding assign_steps
-steps-one e h = go (eqb (expr_kind e) 16) refl
+steps-one e f g = go (eqb (expr_kind e) 16) refl
   where
     go : (t : Bool) → eqb (expr_kind e) 16 ≡ t → 1 ≡ assign_steps e
     go true c = sym (ap assign_steps (kind-lit e (eqb-true (expr_kind e) 16 c)))
@@ -47,46 +47,30 @@ module _ {l : List ℕ} {k p q : ℕ} {b : Block} (h : RowOf l k p q b) (more : 
   pub row-head : p + 4 ≤ length l
   row-head = omega (arith, block_size-some b row-some, block_room h.here)
 
-  -- it ends where its row ends, or before, and the row within the bytes
-  pub row_next : (size : ℕ) → size ≡ val (part l p 2) → (p + size ≤ q) × (q ≤ length l)
-  row_next size e = go (val (part l (p + 2) 2)) (command-view h.here row-some)
-    where
-      room : q ≤ length l
-      room = omega (arith, block_room h.here, h.ends)
+  loop-here : val (part l (p + 2) 2) ≡ 3 → LoopView l p b
+  loop-here e = as-loop h.here row-some e
 
-      go : (n : ℕ) → CommandView l p b n → (p + size ≤ q) × (q ≤ length l)
-      go _ (first_nest v) = (omega (arith, v.size, v.stored, h.ends), room)
-      go _ (first_assign v) = (omega (arith, v.size, v.stored, h.ends), room)
-      go _ (first_loop v) = (omega (arith, v.size, v.stored, h.ends), room)
+  nest-here : val (part l (p + 2) 2) ≡ 1 → NestView l p b
+  nest-here e = as-nest h.here row-some e
 
-  module _ {kind : ℕ} (is-kind : kind ≡ val (part l (p + 2) 2)) where
-    loop-here : kind ≡ 3 → LoopView l p b
-    loop-here e = as-loop h.here row-some (sym is-kind ∙ e)
+  assign-here : (val (part l (p + 2) 2) ≡ 3 → ⊥) → (val (part l (p + 2) 2) ≡ 1 → ⊥) → AssignView l p b
+  assign-here f g = as-assign h.here row-some (omega (arith, command-kind h.here row-some))
 
-    nest-here : kind ≡ 1 → NestView l p b
-    nest-here e = as-nest h.here row-some (sym is-kind ∙ e)
+  pub first-loop : val (part l (p + 2) 2) ≡ 3 → (x : ℕ) × ((m : Bound) × ((c : Block) × ((r : Block) × (BlockAt l p (loop x m c r) × BoundWithin k m))))
+  first-loop e =
+      let v = loop-here e in
+      (v.variable, (v.bound, (v.body, (v.rest, (block_same h.here v.is, (subst (BlockWithin k) v.is h.within).1)))))
 
-    assign-here : (kind ≡ 3 → ⊥) → (kind ≡ 1 → ⊥) → AssignView l p b
-    assign-here f g = as-assign h.here row-some (omega (arith, command-kind h.here row-some, is-kind))
-
-    pub first-loop : kind ≡ 3 → (x : ℕ) × ((m : Bound) × ((c : Block) × ((r : Block) × (BlockAt l p (loop x m c r) × BoundWithin k m))))
-    first-loop e =
-        let v = loop-here e in
-        (v.variable, (v.bound, (v.body, (v.rest, (block_same h.here v.is, (subst (BlockWithin k) v.is h.within).1)))))
-
-    pub first-assign : (kind ≡ 3 → ⊥) → (kind ≡ 1 → ⊥) → (x : ℕ) × ((d : Expr) × ((r : Block) × BlockAt l p (assign x d r)))
-    first-assign f g = let v = assign-here f g in (v.variable, (v.expr, (v.rest, block_same h.here v.is)))
-
-    pub loop-room : kind ≡ 3 → p + 20 ≤ q
-    loop-room e = omega (arith, (loop-here e).size, h.ends)
+  pub first-assign : (val (part l (p + 2) 2) ≡ 3 → ⊥) → (val (part l (p + 2) 2) ≡ 1 → ⊥) → (x : ℕ) × ((d : Expr) × ((r : Block) × BlockAt l p (assign x d r)))
+  first-assign f g = let v = assign-here f g in (v.variable, (v.expr, (v.rest, block_same h.here v.is)))
 
 -- THE COMMAND OPENED
 
-module _ {l : List ℕ} (s : List ℕ) {p q : ℕ} {b : Block} (h : RowOf l (length s) p q b) (more : p < q) {kind size : ℕ} (is-kind : kind ≡ val (part l (p + 2) 2)) (is-size : size ≡ val (part l p 2)) where
-  pub open_loop : kind ≡ 3 → (n : ℕ) → ((x : ℕ) (m : Bound) (c r : Block) → BlockAt l p (loop x m c r) → n ≡ bound_value s m)
+module _ {l : List ℕ} (s : List ℕ) {p q : ℕ} {b : Block} (h : RowOf l (length s) p q b) (more : p < q) {size : ℕ} (is-size : size ≡ val (part l p 2)) where
+  pub open_loop : val (part l (p + 2) 2) ≡ 3 → (n : ℕ) → ((x : ℕ) (m : Bound) (c r : Block) → BlockAt l p (loop x m c r) → n ≡ bound_value s m)
       → Opened l s p q b (3 * n + 2) n (p + 20) (p + size)
   open_loop k n f =
-      let v = loop-here h more is-kind k in
+      let v = loop-here h more k in
       let w : BlockWithin (length s) (loop v.variable v.bound v.body v.rest) = subst (BlockWithin (length s)) v.is h.within in
       let t = v.stored in
       let z = v.size in
@@ -95,9 +79,9 @@ module _ {l : List ℕ} (s : List ℕ) {p q : ℕ} {b : Block} (h : RowOf l (len
       (record { here = v.inside; ends = omega arith; within = w.2 })
       (record { here = block-index v.after (omega arith); ends = omega arith; within = w.3 })
 
-  pub open-nest : kind ≡ 1 → Opened l s p q b 1 1 (p + 4) (p + size)
+  pub open-nest : val (part l (p + 2) 2) ≡ 1 → Opened l s p q b 1 1 (p + 4) (p + size)
   open-nest k =
-      let v = nest-here h more is-kind k in
+      let v = nest-here h more k in
       let w : BlockWithin (length s) (nest v.body v.rest) = subst (BlockWithin (length s)) v.is h.within in
       let t = v.stored in
       let z = v.size in
@@ -106,10 +90,10 @@ module _ {l : List ℕ} (s : List ℕ) {p q : ℕ} {b : Block} (h : RowOf l (len
       (record { here = v.inside; ends = omega arith; within = w.0 })
       (record { here = block-index v.after (omega arith); ends = omega arith; within = w.1 })
 
-  pub open-assign : (kind ≡ 3 → ⊥) → (kind ≡ 1 → ⊥) → (n : ℕ) → ((x : ℕ) (e : Expr) (r : Block) → BlockAt l p (assign x e r) → n ≡ assign_steps e)
+  pub open-assign : (val (part l (p + 2) 2) ≡ 3 → ⊥) → (val (part l (p + 2) 2) ≡ 1 → ⊥) → (n : ℕ) → ((x : ℕ) (e : Expr) (r : Block) → BlockAt l p (assign x e r) → n ≡ assign_steps e)
       → Opened l s p q b n 0 (p + size) (p + size)
   open-assign f g n own =
-      let v = assign-here h more is-kind f g in
+      let v = assign-here h more f g in
       let w : BlockWithin (length s) (assign v.variable v.expr v.rest) = subst (BlockWithin (length s)) v.is h.within in
       let t = v.stored in
       let z = v.size in

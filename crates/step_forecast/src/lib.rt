@@ -2,7 +2,7 @@
 // command assigns a variable used as a loop bound. And the first command of a row, as every figure's walk sees it.
 #![tactic(auto)]
 
-ghost use Rattle.std.specs.Prelude.{◌≡◌, ℕ, ◌+◌, ◌*◌, ◌≤◌, ◌<◌, length};
+ghost use Rattle.std.specs.Prelude.{◌≡◌, ◌⊎◌, ℕ, ◌+◌, ◌-◌, ◌*◌, ◌^◌, ◌≤◌, ◌<◌, SomeIff, length};
 ghost use Rattle.rules.specs.Evaluate.{assign_steps};
 ghost use Rattle.rules.specs.Scope.{BoundWithin};
 ghost use Rattle.rules.specs.Step.{bound_value};
@@ -10,19 +10,9 @@ ghost use Rattle.rules.specs.Syntax.{Block, Bound, Expr, assign, loop};
 ghost use Rattle.place.specs.ProgramView.{BlockAt};
 ghost use Rattle.forecast.specs.Figures.{steps_of};
 ghost use Rattle.forecast.specs.Rows.{Opened, RowIn, RowOf};
-ghost use Rattle.step_forecast.specs.Wide.{as_wide, wide};
 
-use record::kind::{BLOCK, LOOP, PLUS_ONE};
-
-// A number of steps, or that it is too large for the answer (refusal 19).
-#[derive(Clone, Copy)]
-pub enum Steps {
-    Number(u64),
-    TooLarge,
-}
-
-// The largest number of steps that is answered.
-const MOST: u64 = 18446744073709551615;
+use command::Leaf;
+use record::kind::Kind;
 
 // The first command of a row: its own steps, how often what is inside it is run, where that starts, and where it ends, which is where
 // the rest of the row starts.
@@ -34,11 +24,25 @@ pub struct Head {
     pub next: usize,
 }
 
-// A cast through a function: its contract brings the bound.
-fn widen(x: u32) -> u64
-    ensures { (result ≡ x) × (result < 4294967296) }
-{
-    x as u64
+impl Head {
+    // Where what is inside and is run starts: at its end where it has no turn.
+    fn run_from(self) -> usize
+        ensures { (self.turns ≡ 0 → result ≡ self.next) × ((self.turns ≡ 0 → ⊥) → result ≡ self.inner) }
+    {
+        if self.turns == 0 {
+            self.next
+        } else {
+            self.inner
+        }
+    }
+}
+
+// A row of commands from `from` up to `to`, and how often its steps are counted.
+#[derive(Clone, Copy)]
+struct Part {
+    from: usize,
+    to: usize,
+    times: u64,
 }
 
 // The turns of the loop at index at: the value of its bound.
@@ -46,9 +50,8 @@ fn turns_of(src: &[u8], store: &[u32], at: usize) -> u64
     requires { (x : ℕ) × ((m : Bound) × ((c : Block) × ((r : Block) × (BlockAt src.now at (loop x m c r) × BoundWithin (length store.now) m)))) }
     ensures { ((x : ℕ) (m : Bound) (c r : Block) → BlockAt src.now at (loop x m c r) → result ≡ bound_value store.now m) × (result < 4294967296) }
 {
-    let kind = buffer::get_u16(src, at + 10);
-    let number = buffer::get_u32(src, at + 12);
-    widen(command::bound_value(kind, number, store))
+    let bound = Leaf::read(src, at + 8);
+    u64::from(bound.value(store))
 }
 
 // The steps of the assignment at index at: one more where its expression is worked out first.
@@ -56,10 +59,9 @@ fn assign_steps(src: &[u8], at: usize) -> u64
     requires { (x : ℕ) × ((e : Expr) × ((r : Block) × BlockAt src.now at (assign x e r))) }
     ensures { (x : ℕ) (e : Expr) (r : Block) → BlockAt src.now at (assign x e r) → result ≡ assign_steps e }
 {
-    if buffer::get_u16(src, at + 10) < PLUS_ONE {
-        1
-    } else {
-        2
+    match Kind::read(src, at + 10) {
+        Kind::PlusOne | Kind::MinusOne => 2,
+        _ => 1,
     }
 }
 
@@ -68,96 +70,88 @@ pub fn look(src: &[u8], store: &[u32], at: usize, end: usize) -> Head
     requires { (RowIn src.now (length store.now) at end) × (at < end) }
     ensures { ((b : Block) → RowOf src.now (length store.now) at end b → Opened src.now store.now at end b result.steps result.turns result.inner result.next) × (result.turns < 4294967296) }
 {
-    let kind = buffer::get_u16(src, at + 2);
     let next = at + buffer::get_u16(src, at);
-    if kind == LOOP {
-        let turns = turns_of(src, store, at);
-        return Head {
-            steps: 3 * turns + 2,
-            turns: turns,
-            inner: at + 20,
-            next: next,
-        };
-    }
-    if kind == BLOCK {
-        return Head {
+    match Kind::read(src, at + 2) {
+        Kind::Loop => {
+            let turns = turns_of(src, store, at);
+            Head {
+                steps: 3 * turns + 2,
+                turns,
+                inner: at + 20,
+                next,
+            }
+        }
+        Kind::Block => Head {
             steps: 1,
             turns: 1,
             inner: at + 4,
-            next: next,
-        };
-    }
-    Head {
-        steps: assign_steps(src, at),
-        turns: 0,
-        inner: next,
-        next: next,
+            next,
+        },
+        _ => Head {
+            steps: assign_steps(src, at),
+            turns: 0,
+            inner: next,
+            next,
+        },
     }
 }
 
-// a + m * c, found too large by one quotient: no product or sum can then wrap.
-fn add_times(a: u64, m: u64, c: u64) -> Steps
-    requires { 1 ≤ m }
-    ensures { as_wide result ≡ wide (a + m * c) }
+// a + m * c, where 64 bits hold it.
+fn add_times(a: u64, m: u64, c: u64) -> Option<u64>
+    ensures { SomeIff result (a + m * c < 2 ^ 64) (a + m * c) }
 {
-    if (MOST - a) / m < c {
-        return Steps::TooLarge;
+    a.checked_add(m.checked_mul(c)?)
+}
+
+// The two rows, the shorter before the longer.
+fn shorter_first(a: Part, b: Part) -> (Part, Part)
+    requires { (a.from ≤ a.to) × (b.from ≤ b.to) }
+    ensures { ((result ≡ (a, b)) ⊎ (result ≡ (b, a))) × (result.0.to - result.0.from ≤ result.1.to - result.1.from) }
+{
+    if b.to - b.from < a.to - a.from {
+        (b, a)
+    } else {
+        (a, b)
     }
-    Steps::Number(a + m * c)
 }
 
-// Where what is inside a command and is run starts: at its end where it has no turn.
-fn run_from(turns: u64, inner: usize, next: usize) -> usize
-    ensures { (turns ≡ 0 → result ≡ next) × ((turns ≡ 0 → ⊥) → result ≡ inner) }
+// a + the steps of a row, each counted as often as the row's `times` says. Of what is inside a command and what is behind it the shorter
+// is walked by a call and the longer by the loop, so the calls nest no deeper than the logarithm of the length. For the stack's sake the
+// call stands at one place, and a row with no command takes none. A loop of no turn is passed over, with all that is inside it.
+fn walk(src: &[u8], store: &[u32], whole: Part, a: u64) -> Option<u64>
+    requires { RowIn src.now (length store.now) whole.from whole.to }
+    ensures { (b : Block) → RowOf src.now (length store.now) whole.from whole.to b → SomeIff result (a + whole.times * steps_of store.now b < 2 ^ 64) (a + whole.times * steps_of store.now b) }
 {
-    if turns == 0 { next } else { inner }
-}
-
-// a + m * the steps of the row. Of what is inside a command and what is behind it the shorter is walked by a call and the longer by the
-// loop, so the calls nest no deeper than the logarithm of the length. For the stack's sake all is handed on in numbers, the call stands
-// at one place, and a row with no command takes none. A loop of no turn is passed over, with all that is inside it.
-fn walk(src: &[u8], store: &[u32], from: usize, to: usize, a: u64, m: u64) -> Steps
-    requires { (RowIn src.now (length store.now) from to) × (1 ≤ m) }
-    ensures { (b : Block) → RowOf src.now (length store.now) from to b → as_wide result ≡ wide (a + m * steps_of store.now b) }
-{
-    let mut at = from;
-    let mut end = to;
+    let mut left = whole;
     let mut found = a;
-    let mut times = m;
-    while at < end {
-        let head = look(src, store, at, end);
-        let Steps::Number(sum) = add_times(found, times, head.steps) else {
-            return Steps::TooLarge;
+    // Kept: what is left is one of two rows that the first command shows, and the other goes to a call: no iterator goes on so.
+    while left.from < left.to {
+        let head = look(src, store, left.from, left.to);
+        found = add_times(found, left.times, head.steps)?;
+        let inside = Part {
+            from: head.run_from(),
+            to: head.next,
+            times: left.times * head.turns,
         };
-        found = sum;
-        let next = head.next;
-        let inside = times * head.turns;
-        let mut start = run_from(head.turns, head.inner, next);
-        let mut stop = next;
-        let mut each = inside;
-        at = next;
-        if end - next < next - start {
-            at = start;
-            start = next;
-            stop = end;
-            each = times;
-            end = next;
-            times = inside;
+        let behind = Part {
+            from: head.next,
+            to: left.to,
+            times: left.times,
+        };
+        let (shorter, longer) = shorter_first(inside, behind);
+        if shorter.from < shorter.to {
+            found = walk(src, store, shorter, found)?;
         }
-        if start < stop {
-            let Steps::Number(more) = walk(src, store, start, stop, found, each) else {
-                return Steps::TooLarge;
-            };
-            found = more;
-        }
+        left = longer;
     }
-    Steps::Number(found)
+    Some(found)
 }
 
 // The steps of a row to its end.
-pub fn count_steps(src: &[u8], store: &[u32], from: usize, to: usize) -> Steps
+pub fn count_steps(src: &[u8], store: &[u32], from: usize, to: usize) -> Option<u64>
     requires { RowIn src.now (length store.now) from to }
-    ensures { (b : Block) → RowOf src.now (length store.now) from to b → as_wide result ≡ wide (steps_of store.now b) }
+    ensures { (b : Block) → RowOf src.now (length store.now) from to b → SomeIff result (steps_of store.now b < 2 ^ 64) (steps_of store.now b) }
 {
-    walk(src, store, from, to, 0, 1)
+    let whole = Part { from, to, times: 1 };
+    walk(src, store, whole, 0)
 }

@@ -3,7 +3,7 @@
 
 ghost use Rattle.std.specs.Prelude.{◌≡◌, length};
 ghost use Rattle.rules.specs.Syntax.{Block};
-ghost use Rattle.run.specs.Represents.{as_run_answer};
+ghost use Rattle.run.specs.Represents.{run_answer_of};
 ghost use Rattle.stepper.specs.RunStepper.{run_stepper};
 ghost use Rattle.stepper.specs.Running.{Accepted, Gives, accepted_run};
 
@@ -12,7 +12,7 @@ use command::look;
 use plan::outcome_of;
 use program_checker::check_program;
 use record::Header;
-use record::refusal::{BAD_STORE, VALUE_ABOVE_CEILING};
+use record::refusal::Refusal;
 use run::{RunEnd, Tally};
 use stepping::perform;
 
@@ -46,20 +46,20 @@ pub fn run_accepted(
 }
 
 // The call: a refusal comes before anything is written.
-pub fn run_stepper(buf: &mut [u8], used: usize, store: &mut [u32], budget: u32) -> RunEnd
-    ensures { (as_run_answer result ≡ (run_stepper buf.old used store.old budget).answer) × (buf.new ≡ (run_stepper buf.old used store.old budget).buf) × (store.new ≡ (run_stepper buf.old used store.old budget).store) }
+pub fn run_stepper(
+    buf: &mut [u8],
+    used: usize,
+    store: &mut [u32],
+    budget: u32,
+) -> Result<RunEnd, Refusal>
+    ensures { (run_answer_of result ≡ (run_stepper buf.old used store.old budget).answer) × (buf.new ≡ (run_stepper buf.old used store.old budget).buf) × (store.new ≡ (run_stepper buf.old used store.old budget).store) }
 {
-    let checked = check_program(buf, used);
-    let number = checked.number;
-    if number != 0 {
-        return run::refuse(number);
+    let h = check_program(buf, used)?;
+    if store.len() != h.k as usize {
+        return Err(Refusal::BadStore);
     }
-    if store.len() != checked.k as usize {
-        return run::refuse(BAD_STORE);
-    }
-    let h = record::read_header(buf);
     if some_above(store, h.largest()) {
-        return run::refuse(VALUE_ABOVE_CEILING);
+        return Err(Refusal::ValueAboveCeiling);
     }
-    run_accepted(buf, used, h, store, budget)
+    Ok(run_accepted(buf, used, h, store, budget))
 }

@@ -1,4 +1,3 @@
-pub mod EditedLaws
 pub mod PlanLaws
 pub mod StateLaws
 pub mod PerformLaws

@@ -1,10 +1,8 @@
 -- A checked term at an index, by the kind read there: what stands on the path of its free variables.
-use Prim.Native.Nat.{◌*◌, ◌+◌, ◌-◌, ◌<◌, ◌≤◌, ℕ}
-use mathlib.Core.Path.{ap, refl, subst, sym, ◌∙◌, ◌≡◌}
-use mathlib.Core.Bool.{Bool, false, true}
+use Prim.Native.Nat.{◌+◌, ◌-◌, ◌<◌, ◌≤◌, ℕ}
+use mathlib.Core.Path.{refl, subst, ◌≡◌}
+use mathlib.Core.Bool.{Bool}
 use mathlib.Core.List.{List, [], ◌∷◌}
-use borrow.Author.Tests.{le-ltb, lt-ltb, ltb-false, ltb-true}
-use lib.Dec.{ltb}
 use lib.ListN.{length}
 use native.Mathlib.Omega.{arith}
 use Rattle.buffer.specs.LittleEndian.{val}
@@ -12,40 +10,29 @@ use Rattle.buffer.specs.Slice.{part}
 use Rattle.record.specs.declared.Header.{Header}
 use Rattle.record.specs.Header.{contents_at, ok_of}
 use Rattle.record.specs.Holding.{TermIn}
+use Rattle.record.specs.Kind.{kind_named}
+use Rattle.record.specs.declared.kind.Kind.{Kind}
+use Rattle.record.specs.declared.kind.Kind.TheVariants.{LetAll, LetOne, Tuple}
+use Rattle.record.proofs.KindLaws.{not-number}
 use Rattle.record.specs.Term.{simple_size}
 use Rattle.rules.specs.FreeVariables.{Vars, adding, all_vars, atom_of_simple}
 use Rattle.rules.specs.Scope.{AtomWithin, AtomsWithin, SimpleWithin, TermWithin}
 use Rattle.rules.specs.Sound.{SoundAtom, SoundAtoms, SoundSimple, SoundTerm}
 use Rattle.rules.specs.Syntax.{Atom, Simple, Term, let_all, let_one, num, plain, pred_of, rec, ref, succ_of, tuple}
-use Rattle.place.specs.TermView.{LetAllView, LetOneView, RecView, TupleView}
+use Rattle.place.specs.TermView.{simple_kind, LetAllView, LetOneView, RecView, TupleView}
 use Rattle.place.proofs.WholeLaws.{term-from}
-use Rattle.place.proofs.TermBytesLaws.{simple-high, simple-low}
-use Rattle.place.proofs.TermViewLaws.{as-let_all, as-let_one, as-rec, as-tuple, atom-index, atom-view, atoms-first, atoms-room, term-kind, term-room}
-use Rattle.substitution.specs.BoundAtom.{bound_atom, bound_atom_if}
+use Rattle.place.proofs.TermBytesLaws.{atom_kind-range, simple-least}
+use Rattle.place.proofs.TermViewLaws.{as-let_all, as-let_one, as-rec, as-tuple, atom-view, atoms-first, term-kind, term-room}
 use Rattle.substitution.specs.Ranged.{RangedAtom, RangedAtoms, RangedTerm}
 
 -- THE ATOM OF A LET-ONE
 
-pub bound-low : (l : List ℕ) (p : ℕ) → val (part l (p + 10) 2) < 34 → p + 8 ≡ bound_atom l p
-unfolding bound_atom bound_atom_if
-bound-low l p h = rw (lt-ltb (val (part l (p + 10) 2)) 34 h)
-
-pub bound-high : (l : List ℕ) (p : ℕ) → 34 ≤ val (part l (p + 10) 2) → p + 12 ≡ bound_atom l p
-unfolding bound_atom bound_atom_if
-bound-high l p h = rw (le-ltb (val (part l (p + 10) 2)) 34 h)
-
-bound-size : {l : List ℕ} {p k : ℕ} {t : Term} (v : LetOneView l p k t) → (8 ≤ simple_size v.bound) × (bound_atom l p ≡ p + simple_size v.bound)
-bound-size {l} {p} v = go (ltb (val (part l (p + 10) 2)) 34) refl
-  where
-    go : (b : Bool) → ltb (val (part l (p + 10) 2)) 34 ≡ b → (8 ≤ simple_size v.bound) × (bound_atom l p ≡ p + simple_size v.bound)
-    go true e =
-        let b = ltb-true (val (part l (p + 10) 2)) 34 e in
-        let z = simple-low v.bound (rw v.kind-read at b) in
-        (omega arith, sym (bound-low l p b) ∙ ap (λ (n : ℕ). p + n) (sym z))
-    go false e =
-        let b = ltb-false (val (part l (p + 10) 2)) 34 e in
-        let z = simple-high v.bound (rw v.kind-read at b) in
-        (omega arith, sym (bound-high l p b) ∙ ap (λ (n : ℕ). p + n) (sym z))
+-- what is neither succ nor pred is an atom
+pub kind-low : (s : Simple) → (simple_kind s ≡ 34 → ⊥) → (simple_kind s ≡ 35 → ⊥) → simple_kind s < 34
+unfolding simple_kind
+kind-low (plain a) n m = omega (arith, atom_kind-range a)
+kind-low (succ_of a) n m = absurd (n refl)
+kind-low (pred_of a) n m = absurd (m refl)
 
 simple-within : (s : Simple) → SimpleWithin 16 s → AtomWithin 16 (atom_of_simple s)
 simple-within (plain a) h = h
@@ -53,18 +40,6 @@ simple-within (succ_of a) h = h
 simple-within (pred_of a) h = h
 
 -- ROWS OF ATOMS
-
--- n atoms stand at p, of which something is to be shown.
-pub record Row (l : List ℕ) (Goal : ℕ → List Atom → Type 0) (p n : ℕ) : Type 0 where
-  pub atoms : List Atom
-  pub here : RangedAtoms l p n atoms
-  pub goal : Goal p atoms
-
-pub row_moved : {l : List ℕ} {Goal : ℕ → List Atom → Type 0} {p q n m : ℕ} → Row l Goal p n → p ≡ q → n ≡ m → Row l Goal q m
-row_moved {l} {Goal} {p} {q} {n} {m} r e f = subst (λ (x : ℕ). Row l Goal x m) e (subst (λ (x : ℕ). Row l Goal p x) f r)
-
-pub row_room : {l : List ℕ} {Goal : ℕ → List Atom → Type 0} {p n : ℕ} → Row l Goal p n → p + 8 * n ≤ length l
-row_room r = omega (arith, atoms-room r.here.here, r.here.count)
 
 -- the first of them, and the others
 pub ranged-first : {l : List ℕ} {p n : ℕ} {a : Atom} {ys : List Atom} → RangedAtoms l p n (a ∷ ys) → RangedAtom l p a × RangedAtoms l (p + 8) (n - 1) ys
@@ -81,11 +56,10 @@ pub record RangedTuple (l : List ℕ) (p k : ℕ) (t : Term) : Type 0 where
 pub record RangedLetOne (l : List ℕ) (p k : ℕ) (t : Term) : Type 0 where
   pub view : LetOneView l p k t
   pub low : view.variable < 17
-  pub place : bound_atom l p ≡ p + simple_size view.bound
-  pub atom : RangedAtom l (bound_atom l p) (atom_of_simple view.bound)
+  pub atom : RangedAtom l (p + simple_size view.bound) (atom_of_simple view.bound)
   pub last : TermWithin 16 view.last
-  pub high : p + 8 ≤ bound_atom l p
-  pub room : bound_atom l p + 8 ≤ length l
+  pub high : 8 ≤ simple_size view.bound
+  pub room : p + simple_size view.bound + 8 ≤ length l
 
 pub record RangedLetAll (l : List ℕ) (p k : ℕ) (t : Term) : Type 0 where
   pub view : LetAllView l p k t
@@ -108,17 +82,14 @@ module _ {l : List ℕ} {p k : ℕ} {t : Term} (h : RangedTerm l p k t) where
   pub ranged-let_one : val (part l (p + 2) 2) ≡ 37 → RangedLetOne l p k t
   ranged-let_one e =
       let v = as-let_one h.here e in
-      let s = bound-size v in
       let r : TermWithin 16 (let_one v.variable v.bound v.last) = subst (TermWithin 16) v.is h.range in
-      let a = atom-index v.atom (sym s.1) in
       record {
         view = v;
         low = omega (arith, r.0.1);
-        place = s.1;
-        atom = record { here = a; range = simple-within v.bound r.1 };
+        atom = record { here = v.atom; range = simple-within v.bound r.1 };
         last = r.2;
-        high = omega (arith, s.0, s.1);
-        room = (atom-view a).room;
+        high = simple-least v.bound;
+        room = (atom-view v.atom).room;
       }
 
   pub ranged-let_all : val (part l (p + 2) 2) ≡ 38 → RangedLetAll l p k t
@@ -134,12 +105,10 @@ module _ {l : List ℕ} {p k : ℕ} {t : Term} (h : RangedTerm l p k t) where
       record { view = v; count = record { here = v.count_at; range = r.1 }; start = r.2 }
 
   -- what is none of the other three is a rec
-  pub else-rec : (n : ℕ) → n ≡ val (part l (p + 2) 2) → (n ≡ 36 → ⊥) → (n ≡ 37 → ⊥) → (n ≡ 38 → ⊥) → RangedRec l p k t
-  else-rec n e a b c = ranged-rec (let r = term-kind h.here in omega arith)
-
--- with the atom's place as it was read
-pub let_one-atom : {l : List ℕ} {p k : ℕ} {t : Term} (v : RangedLetOne l p k t) (q : ℕ) → q ≡ bound_atom l p → RangedAtom l q (atom_of_simple v.view.bound)
-let_one-atom {l} v q e = subst (λ (n : ℕ). RangedAtom l n (atom_of_simple v.view.bound)) (sym e) v.atom
+  pub else-rec : {r : Kind} → r ≡ kind_named (val (part l (p + 2) 2)) → (r ≡ Tuple → ⊥) → (r ≡ LetOne → ⊥) → (r ≡ LetAll → ⊥) → RangedRec l p k t
+  else-rec e a b c =
+      let r = term-kind h.here in
+      ranged-rec (omega (arith, not-number Tuple tt e a, not-number LetOne tt e b, not-number LetAll tt e c))
 
 -- A RECORD IN A BUFFER
 

@@ -1,3 +1,3 @@
 pub mod Ranged
-pub mod BoundAtom
 pub mod Marks
+pub mod Path

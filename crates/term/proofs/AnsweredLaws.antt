@@ -30,20 +30,13 @@ use Rattle.record.proofs.RowLaws.{first-applies, first-behind, first-skips, is_n
 use Rattle.record.proofs.RowMeaningLaws.{finished-iff, rows-mean}
 use Rattle.rules.proofs.FreeVariablesLaws.{closed-nums}
 use Rattle.rules.proofs.Tests.{true-false}
-use Rattle.term.specs.declared.substitute.Substituted as code
-use Rattle.term.specs.declared.Written.{Written}
-use Rattle.term.specs.Answer.{as_substituted, as_wrote, refused_with, refuses_with}
 use Rattle.term.specs.Calls.{Substituted, read_back_call, read_back_rows, result_call, result_rows, substitute_call, substitute_rows, translate_call, translate_rows}
 use Rattle.term.proofs.CallLaws.{read_back-fits, read_back-long, read_back-none, read_back-number, read_back-refused, result-first, result-refused, substitute-gives, substitute-refused, translate-fits, translate-long, translate-number, translate-refused}
 use Rattle.term.proofs.CallMeaningLaws.{result-gives}
 
 -- A refusal of a call that writes a buffer.
 abbrev pub refusal : ℕ → List ℕ → Wrote
-refusal n buf = as_wrote (refused_with n) buf
-
--- What the code hands back, by what it is equal to.
-pub answers : {r w : Written} {after : List ℕ} {x : Wrote} → r ≡ w → as_wrote w after ≡ x → as_wrote r after ≡ x
-answers {r} {w} {after} {x} e h = ap (λ (v : Written). as_wrote v after) e ∙ h
+refusal n buf = record { number = n; used = 0; written = buf }
 
 -- a call that refuses by its first row, by the number of that row
 by_row : {A : Type 0} (rows : List Row) (refuses : ℕ → A) (call : A) → ((first_row rows ≡ 0 → ⊥) → call ≡ refuses (first_row rows)) → (n : ℕ) → first_row rows ≡ n → (n ≡ 0 → ⊥) → refuses n ≡ call
@@ -135,11 +128,7 @@ six-first {hd} {t} {buf} {used} h l store n more =
 
 -- A refusal of it.
 abbrev pub refusing : ℕ → List ℕ → Substituted
-refusing n buf = as_substituted (refuses_with n) buf
-
--- What the code hands back, by what it is equal to.
-pub substitute-answers : {r w : code.Substituted} {after : List ℕ} {x : Substituted} → r ≡ w → as_substituted w after ≡ x → as_substituted r after ≡ x
-substitute-answers {after = after} e h = ap (λ (v : code.Substituted). as_substituted v after) e ∙ h
+refusing n buf = record { number = n; used = 0; replaced = 0; written = buf }
 
 substitute-row : (buf : List ℕ) (used : ℕ) (store : List ℕ) (n : ℕ) → first_row (substitute_rows buf used store) ≡ n → (n ≡ 0 → ⊥) → refusing n buf ≡ substitute_call buf used store
 substitute-row buf used store = by_row (substitute_rows buf used store) (λ m. refusing m buf) (substitute_call buf used store) (substitute-refused buf used store)

@@ -2,15 +2,17 @@
 // what the check has made sure of.
 #![tactic(auto)]
 
-ghost use Rattle.std.specs.Prelude.{◌≡◌, ◌≤◌};
-ghost use Rattle.term.specs.Answer.{refused_with, wrote_bytes};
+ghost use Rattle.std.specs.Prelude.{◌≡◌, List, ℕ};
+ghost use Rattle.term.specs.Answer.{as_wrote, wrote_of};
 
 pub mod read_back;
 pub mod result;
 pub mod substitute;
 pub mod translate;
 
-// The answer of a call that writes a buffer: the number of the refusal and 0, or 0 and the new used length.
+use record::refusal::Refusal;
+
+// The answer of a call that writes a buffer, as it crosses the C boundary: the number of the refusal and 0, or 0 and the new used length.
 #[repr(C)]
 #[derive(Clone, Copy)]
 pub struct Written {
@@ -18,19 +20,16 @@ pub struct Written {
     pub used: u32,
 }
 
-pub fn refused(number: u32) -> Written
-    ensures { result ≡ refused_with number }
-{
-    Written { number, used: 0 }
-}
+impl From<Result<u32, Refusal>> for Written {
+    ghost from_gives = { λ answer written. (out : List ℕ) → as_wrote written out ≡ wrote_of answer out };
 
-// A used length fits a u32, for no buffer is longer than 16,384 bytes.
-pub fn wrote(used: usize) -> Written
-    requires { used ≤ 16384 }
-    ensures { result ≡ wrote_bytes used }
-{
-    Written {
-        number: 0,
-        used: used as u32,
+    fn from(answer: Result<u32, Refusal>) -> Written {
+        match answer {
+            Ok(used) => Written { number: 0, used },
+            Err(refusal) => Written {
+                number: refusal.number(),
+                used: 0,
+            },
+        }
     }
 }

@@ -3,38 +3,35 @@ ghost use Rattle.std.specs.Prelude.{◌≡◌, ◌≤◌, length};
 ghost use Rattle.rules.specs.FreeVariables.{all_vars};
 ghost use Rattle.rules.specs.Syntax.{Term};
 ghost use Rattle.record.specs.Holding.{TermIn};
+ghost use Rattle.record.specs.Refusal.{answer_number};
 ghost use Rattle.term.specs.Calls.{result_call};
 
 use numerals::{copy_numerals, is_finished};
 use record::Header;
-use record::refusal::{BAD_STORE, FREE_VARIABLE, UNFINISHED};
+use record::refusal::Refusal;
 use substitution::closed::is_closed;
 use term_checker::check_term;
 
-fn result_checked(buf: &[u8], used: usize, h: Header, store: &mut [u32]) -> u32
+fn result_checked(buf: &[u8], used: usize, h: Header, store: &mut [u32]) -> Result<(), Refusal>
     requires { ((t : Term) × TermIn all_vars h t buf.now used) × (length buf.now ≤ 16384) }
-    ensures { (result ≡ (result_call buf.now used store.old).number) × (store.new ≡ (result_call buf.now used store.old).store) }
+    ensures { (answer_number result ≡ (result_call buf.now used store.old).number) × (store.new ≡ (result_call buf.now used store.old).store) }
 {
     if store.len() != h.k as usize {
-        return BAD_STORE;
+        return Err(Refusal::BadStore);
     }
     if !is_closed(buf, used, h) {
-        return FREE_VARIABLE;
+        return Err(Refusal::FreeVariable);
     }
     if !is_finished(buf, used, h) {
-        return UNFINISHED;
+        return Err(Refusal::Unfinished);
     }
     copy_numerals(buf, used, h, store);
-    0
+    Ok(())
 }
 
-pub fn result(buf: &[u8], used: usize, store: &mut [u32]) -> u32
-    ensures { (result ≡ (result_call buf.now used store.old).number) × (store.new ≡ (result_call buf.now used store.old).store) }
+pub fn result(buf: &[u8], used: usize, store: &mut [u32]) -> Result<(), Refusal>
+    ensures { (answer_number result ≡ (result_call buf.now used store.old).number) × (store.new ≡ (result_call buf.now used store.old).store) }
 {
-    let checked = check_term(buf, used);
-    if checked.number != 0 {
-        return checked.number;
-    }
-    let h = record::read_header(buf);
+    let h = check_term(buf, used)?;
     result_checked(buf, used, h, store)
 }

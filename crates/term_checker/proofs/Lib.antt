@@ -1,5 +1,5 @@
-pub mod KindLaws
 pub mod WalkLaws
 pub mod TermWalkLaws
 pub mod TermVerdictLaws
 pub mod TermOpensLaws
+pub mod Laws

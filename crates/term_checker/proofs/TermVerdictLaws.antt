@@ -26,6 +26,10 @@ worse-turn found a b next e h n = e ∙ ap (worse found) h ∙ sym (worse-assoc 
 pub verdict-none : {A : Type 0} (p : A → Verdict) (o : Option A) → o ≡ none → verdict p o ≡ Malformed
 verdict-none p o e = rw e refl
 
+-- the code finds it malformed
+pub none-malformed : {A : Type 0} (p : A → Verdict) {o : Option A} → o ≡ none → Malformed ≡ verdict p o
+none-malformed p {o = o} e = sym (verdict-none p o e)
+
 pub verdict-some : {A : Type 0} (p : A → Verdict) (o : Option A) (a : A) → o ≡ some a → verdict p o ≡ p a
 verdict-some p o a e = rw e refl
 

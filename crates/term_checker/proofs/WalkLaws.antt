@@ -13,10 +13,13 @@ use Rattle.buffer.specs.LittleEndian.{val}
 use Rattle.buffer.specs.Slice.{part}
 use Rattle.record.specs.Alone.{record_kind}
 use Rattle.record.proofs.AloneLaws.{record_kind-none, record_kind-read, slice-take}
+use Rattle.record.specs.declared.kind.Kind.{Kind}
+use Rattle.record.specs.Kind.{kind_named, kind_number}
+use Rattle.record.proofs.KindLaws.{Known, named-number, not-number}
 use Rattle.reader.specs.Head.{head_at, kind_at, length_at, length_of, next_at}
 use Rattle.reader.specs.declared.Head.{Head}
 use Rattle.reader.specs.declared.Head.TheVariants.{End, Record, Short}
-use Rattle.reader.proofs.HeadLaws.{end-tells, head-record, next-end, next-record, next-short, record-tells, short-tells}
+use Rattle.reader.proofs.HeadLaws.{end-tells, head-record, next-end, next-record, next-short, not-record, record-tells, short-tells}
 use Rattle.term_checker.specs.RecordAt.{record_at}
 
 -- no bytes are no record
@@ -48,7 +51,7 @@ module _ (l : List ℕ) (at : ℕ) where
     pub stands-length : length (record_at l at) ≡ n
     stands-length = ap length stands-bytes ∙ front_length
 
-    pub stands-kind : record_kind (record_at l at) ≡ k
+    stands-kind : record_kind (record_at l at) ≡ k
     stands-kind =
         let w = record-tells l at n k e in
         let least = w.least in
@@ -58,7 +61,7 @@ module _ (l : List ℕ) (at : ℕ) where
         ∙ w.is-kind
 
     -- the value or variable number behind length and kind
-    pub stands-number : 8 ≤ n → val (part l (at + 4) 4) ≡ val (part (record_at l at) 4 4)
+    stands-number : 8 ≤ n → val (part l (at + 4) 4) ≡ val (part (record_at l at) 4 4)
     unfolding part
     stands-number h =
         ap val (ap (take 4) (sym (drop-drop 4 at l)) ∙ sym (slice-take n 4 4 (drop at l) h) ∙ ap (λ (b : List ℕ). part b 4 4) (sym stands-bytes))
@@ -81,14 +84,6 @@ module _ (l : List ℕ) (at : ℕ) where
       go (Record n k) e = whole n k e
       go End e = nothing (nothing-bytes End e refl) (next-end l at e) (λ least inside. omega (arith, end-tells l at e))
       go Short e = nothing (nothing-bytes Short e refl) (next-short l at e) (short-tells l at e)
-
-  pub none_end : head_at l at ≡ End → record_kind (record_at l at) ≡ 0
-  unfolding length_of
-  none_end e = ap record_kind (nothing-bytes End e refl) ∙ empty-kind
-
-  pub none-short : head_at l at ≡ Short → record_kind (record_at l at) ≡ 0
-  unfolding length_of
-  none-short e = ap record_kind (nothing-bytes Short e refl) ∙ empty-kind
 
   -- THE PLACE PAST IT
 
@@ -171,21 +166,6 @@ module _ (l : List ℕ) (at : ℕ) where
 -- ALL OF THE BYTES ARE ONE RECORD, or are not
 
 module _ (l : List ℕ) where
-  module _ (n k : ℕ) (e : head_at l 0 ≡ Record n k) where
-    pub alone-kind : n ≡ length l → record_kind l ≡ k
-    alone-kind q =
-        let w = record-tells l 0 n k e in
-        record_kind-read l (omega (arith, w.least, q)) (w.is-length ∙ q) ∙ w.is-kind
-
-    pub more-kind : (n ≡ length l → ⊥) → record_kind l ≡ 0
-    more-kind h = record_kind-none l (λ four whole. h (sym (record-tells l 0 n k e).is-length ∙ whole))
-
-  pub end-kind : head_at l 0 ≡ End → record_kind l ≡ 0
-  end-kind e = record_kind-none l (λ four whole. omega (arith, end-tells l 0 e))
-
-  pub short-kind : head_at l 0 ≡ Short → record_kind l ≡ 0
-  short-kind e = record_kind-none l (λ four whole. short-tells l 0 e (omega (arith, four, whole)) (omega (arith, whole)))
-
   pub alone-bytes : (k : ℕ) → record_kind l ≡ k → 1 ≤ k → record_at l 0 ≡ l
   alone-bytes k e h = go (eqb (next_at l 0) (length l)) refl
     where
@@ -195,3 +175,50 @@ module _ (l : List ℕ) where
           let none_here : record_kind l ≡ 0 =
           record_kind-none l (λ four whole. eqb-false (next_at l 0) (length l) t (next-record l 0 _ _ (stands_here l 0 (length l) four whole (omega arith)) ∙ omega arith)) in
           absurd (omega (arith, e, h, none_here))
+
+-- WHAT THE CODE FINDS: a record at a place
+
+module _ (l : List ℕ) (at : ℕ) {n m : ℕ} (e : Record n m ≡ head_at l at) where
+  pub record_least : 4 ≤ n
+  record_least = (record-tells l at n m (sym e)).least
+
+  pub record_inside : at + n ≤ length l
+  record_inside = (record-tells l at n m (sym e)).inside
+
+  pub record_next : next_at l at ≡ at + n
+  record_next = next-record l at n m (sym e)
+
+  pub length_here : n ≡ length (record_at l at)
+  length_here = sym (stands-length l at n m (sym e))
+
+  pub number_here : 8 ≤ n → val (part l (at + 4) 4) ≡ val (part (record_at l at) 4 4)
+  number_here = stands-number l at n m (sym e)
+
+  pub kind_here : {k : Kind} → k ≡ kind_named m → record_kind (record_at l at) ≡ kind_number k
+  kind_here named = stands-kind l at n m (sym e) ∙ named-number named
+
+  pub kind-other : {r : Kind} (k : Kind) → Known k → r ≡ kind_named m → (r ≡ k → ⊥) → record_kind (record_at l at) ≡ kind_number k → ⊥
+  kind-other k known named other q = not-number k known named other (sym (stands-kind l at n m (sym e)) ∙ q)
+
+-- or none
+pub none_here : (l : List ℕ) (at : ℕ) {h : Head} → h ≡ head_at l at → ((n k : ℕ) → h ≡ Record n k → ⊥) → record_kind (record_at l at) ≡ 0
+unfolding length_of
+none_here l at {h} e other =
+    ap record_kind (not-record h other (λ q. nothing-bytes l at End (sym e ∙ q) refl) (λ q. nothing-bytes l at Short (sym e ∙ q) refl)) ∙ empty-kind
+
+-- and a record in front: it is all of the bytes, or not; or none
+
+module _ (l : List ℕ) where
+  module _ {n m : ℕ} (e : Record n m ≡ head_at l 0) where
+    pub alone-kind : n ≡ length l → record_kind l ≡ m
+    alone-kind q =
+        let w = record-tells l 0 n m (sym e) in
+        record_kind-read l (omega (arith, w.least, q)) (w.is-length ∙ q) ∙ w.is-kind
+
+    pub more-kind : (n ≡ length l → ⊥) → record_kind l ≡ 0
+    more-kind h = record_kind-none l (λ four whole. h (sym (record-tells l 0 n m (sym e)).is-length ∙ whole))
+
+  pub none-kind : {h : Head} → h ≡ head_at l 0 → ((n k : ℕ) → h ≡ Record n k → ⊥) → record_kind l ≡ 0
+  none-kind {h} e other =
+      record_kind-none l λ four whole.
+      not-record h other (λ q. omega (arith, end-tells l 0 (sym e ∙ q))) (λ q. short-tells l 0 (sym e ∙ q) (omega (arith, four, whole)) (omega (arith, whole)))

@@ -16,7 +16,7 @@ use Rattle.record.specs.Term.{encode_simple}
 use Rattle.place.specs.Edit.{lead, leaf_bytes}
 use Rattle.place.specs.Heads.{record_head}
 use Rattle.place.specs.ProgramView.{BlockAt}
-use Rattle.place.proofs.ProgramBytesLaws.{block_size-append, block_size-some}
+use Rattle.place.proofs.ProgramBytesLaws.{block_size-append, block_size-some, bound_kind-range, expr_kind-range}
 use Rattle.place.proofs.ProgramViewLaws.{as-assign, as-loop, as-nest, block_room, command-kind, row-empty}
 use Rattle.place.proofs.TranslatedLaws.{atom_of-bytes, simple_of-high, simple_of-low, simple_size-high, simple_size-low}
 use Rattle.translator.specs.RowTranslation.{RowAt, row_bytes, row_size}
@@ -75,6 +75,8 @@ loop-bytes k l p x n b r kind variable bound number =
 pub record Assigned (k : ℕ) (l : List ℕ) (p q : ℕ) (b : Block) : Type 0 where
   pub rest : RowAt l (p + 16) q
   pub reach : p + 16 ≤ q
+  pub low : 16 ≤ u16 l (p + 10)
+  pub high : u16 l (p + 10) ≤ 19
   pub size : row_size k b ≡ let_one_size (ltb (u16 l (p + 10)) 18) + row_size k rest.block
   pub bytes : row_bytes k b ≡ let_one_head l p (row_size k b) ++ row_bytes k rest.block
 
@@ -125,11 +127,19 @@ module _ {l : List ℕ} {p q : ℕ} (h : RowAt l p q) where
         record {
           rest = record { block = v.rest; here = v.after; ends = omega arith };
           reach = omega arith;
+          low = omega (arith, expr_kind-range v.expr, v.kind-read);
+          high = omega (arith, expr_kind-range v.expr, v.kind-read);
           size = n ∙ assign-size k l p v.variable v.expr v.rest v.kind-read;
           bytes = ap (row_bytes k) v.is
               ∙ assign-bytes k l p v.variable v.expr v.rest v.kind-read v.variable-read v.number_read
               ∙ ap (λ (y : ℕ). let_one_head l p y ++ row_bytes k v.rest) (sym n);
         }
+
+    -- the kind of a loop's bound
+    pub bound-kind : u16 l (p + 2) ≡ 3 → (16 ≤ u16 l (p + 10)) × (u16 l (p + 10) ≤ 19)
+    bound-kind three =
+        let v = as-loop h.here size-some three in
+        (omega (arith, bound_kind-range v.bound, v.kind-read), omega (arith, bound_kind-range v.bound, v.kind-read))
 
     -- the row by the numbers that a loop or a block has there
     opened : (k : ℕ) (body rest : Block) (t : Bool) → eqb (u16 l (p + 2)) 3 ≡ t → BlockAt l (p + opening t) body → BlockAt l (p + (opening t + block_size body)) rest

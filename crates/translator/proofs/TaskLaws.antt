@@ -155,11 +155,11 @@ module _ {k : ℕ} {src : List ℕ} {whole : Task} {b : Block} {out₀ out : Lis
 
   -- a let-one's head is written
   module _ (some : left.from < left.to) (two : u16 src (left.from + 2) ≡ 2) where
-    pub one-room : (left.from + 16 ≤ length src) × (left.start + 20 ≤ length out)
+    pub one-room : (left.from + 16 ≤ length src) × (16 ≤ u16 src (left.from + 10)) × (u16 src (left.from + 10) ≤ 19) × (left.start + 20 ≤ length out)
     one-room =
         let a = row-assign s.task.row some k two in
         let n = let_one_size-least (ltb (u16 src (left.from + 10)) 18) in
-        (omega (arith, a.reach, row_room s.task.row), omega (arith, a.size, row_size-least k a.rest.block, s.task.region, s.fits))
+        (omega (arith, a.reach, row_room s.task.row), a.low, a.high, omega (arith, a.size, row_size-least k a.rest.block, s.task.region, s.fits))
 
     pub left_one : (out₁ : List ℕ) (from start : ℕ) → out₁ ≡ put out left.start (let_one_head src left.from (left.stop - left.start)) → length out₁ ≡ length out
         → from ≡ left.from + 16 → start ≡ left.start + let_one_size (ltb (u16 src (left.from + 10)) 18)

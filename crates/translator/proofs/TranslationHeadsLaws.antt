@@ -1,6 +1,7 @@
 -- What the writers of heads leave, and how long the heads are.
 use Prim.Native.Nat.{◌*◌, ◌+◌, ◌<◌, ◌≤◌, ℕ}
 use mathlib.Core.Path.{ap, refl, sym, ◌∙◌, ◌≡◌}
+use mathlib.Core.Logic.{inl, inr, ◌⊎◌}
 use mathlib.Core.List.{◌++◌, List}
 use borrow.Author.Tests.{eq-eqb, le-ltb, lt-ltb, ne_eqb}
 use lib.Dec.{ltb}
@@ -11,6 +12,10 @@ use Rattle.buffer.specs.Slice.{put}
 use Rattle.buffer.proofs.LittleEndianLaws.{length-le}
 use Rattle.buffer.proofs.StoresLaws.{stores-3, stores-4}
 use Rattle.record.specs.Front.{u16, u32}
+use Rattle.record.specs.declared.kind.Kind.{Kind}
+use Rattle.record.specs.declared.kind.Kind.TheVariants.{Literal, Variable}
+use Rattle.record.specs.Kind.{kind_named}
+use Rattle.record.proofs.KindLaws.{named-number, not-number}
 use Rattle.place.specs.Edit.{lead, leaf_bytes}
 use Rattle.place.specs.Heads.{record_head}
 use Rattle.place.proofs.EditLaws.{length-lead}
@@ -18,14 +23,25 @@ use Rattle.place.proofs.HeadsLaws.{length-record_head}
 use Rattle.translator.specs.RowTranslation.{all_bytes}
 use Rattle.translator.specs.TranslationHeads.{lead_of, let_all_head, let_all_head_if, let_one_head, let_one_head_if, let_one_size}
 
+-- THE KIND OF AN EXPRESSION
+
+-- a literal's or a variable's
+pub kind-low : {n : ℕ} {r : Kind} → r ≡ kind_named n → (r ≡ Literal) ⊎ (r ≡ Variable) → n < 18
+kind-low {n} e (inl f) = let d : n ≡ 16 = named-number (sym f ∙ e) in omega arith
+kind-low {n} e (inr f) = let d : n ≡ 17 = named-number (sym f ∙ e) in omega arith
+
+-- that of one more or one less
+pub kind-high : {n : ℕ} {r : Kind} → r ≡ kind_named n → (r ≡ Literal → ⊥) → (r ≡ Variable → ⊥) → 16 ≤ n → 18 ≤ n
+kind-high e a b low = omega (arith, low, not-number Literal tt e a, not-number Variable tt e b)
+
 -- A LEAD
 
 length-lead_of : (kind n : ℕ) (l : List ℕ) (p : ℕ) → length (lead_of kind n l p) ≡ 16
 unfolding lead_of
 length-lead_of kind n l p = length-lead kind n (u32 l (p + 4)) (u16 l (p + 10) + 16) (u32 l (p + 12))
 
-pub lead-reads : (l : List ℕ) (p kind n x leaf v : ℕ) → x ≡ u32 l (p + 4) → leaf ≡ u16 l (p + 10) → v ≡ u32 l (p + 12)
-    → lead kind n x (leaf + 16) v ≡ lead_of kind n l p
+pub lead-reads : (l : List ℕ) (p kind n x leaf v : ℕ) → x ≡ u32 l (p + 4) → leaf ≡ u16 l (p + 10) + 16 → v ≡ u32 l (p + 12)
+    → lead kind n x leaf v ≡ lead_of kind n l p
 unfolding lead_of
 lead-reads l p kind n x leaf v ex el ev = rw (ex, el, ev) refl
 
@@ -48,14 +64,14 @@ module _ (l : List ℕ) (p n kind : ℕ) (read : kind ≡ u16 l (p + 10)) where
   unfolding let_one_size
   let_one_size-high h = rw (← read, le-ltb kind 18 h) refl
 
-  pub high-stores : (out out₁ out₂ out₃ out₄ : List ℕ) (o x v : ℕ) → 18 ≤ kind → x ≡ u32 l (p + 4) → v ≡ u32 l (p + 12)
-      → out₁ ≡ put out o (record_head 37 n) → out₂ ≡ put out₁ (o + 4) (le 4 x) → out₃ ≡ put out₂ (o + 8) (record_head (kind + 16) 12)
+  pub high-stores : (out out₁ out₂ out₃ out₄ : List ℕ) (o x leaf v : ℕ) → 18 ≤ kind → x ≡ u32 l (p + 4) → leaf ≡ kind + 16 → v ≡ u32 l (p + 12)
+      → out₁ ≡ put out o (record_head 37 n) → out₂ ≡ put out₁ (o + 4) (le 4 x) → out₃ ≡ put out₂ (o + 8) (record_head leaf 12)
       → out₄ ≡ put out₃ (o + 12) (leaf_bytes 33 v) → o + 20 ≤ length out
       → out₄ ≡ put out o (let_one_head l p n)
-  high-stores out out₁ out₂ out₃ out₄ o x v k ex ev e₁ e₂ e₃ e₄ h =
-      stores-4 out out₁ out₂ out₃ out₄ (record_head 37 n) (le 4 x) (record_head (kind + 16) 12) (leaf_bytes 33 v) o (o + 4) (o + 8) (o + 12) e₁ e₂ e₃ e₄
-      (omega (arith, length-record_head 37 n)) (omega (arith, length-le 4 x)) (omega (arith, length-record_head (kind + 16) 12)) (omega arith)
-      ∙ ap (put out o) (rw (let_one_head-high k, ← ex, ← ev) refl)
+  high-stores out out₁ out₂ out₃ out₄ o x leaf v k ex el ev e₁ e₂ e₃ e₄ h =
+      stores-4 out out₁ out₂ out₃ out₄ (record_head 37 n) (le 4 x) (record_head leaf 12) (leaf_bytes 33 v) o (o + 4) (o + 8) (o + 12) e₁ e₂ e₃ e₄
+      (omega (arith, length-record_head 37 n)) (omega (arith, length-le 4 x)) (omega (arith, length-record_head leaf 12)) (omega arith)
+      ∙ ap (put out o) (rw (let_one_head-high k, ← ex, ← el, ← ev) refl)
 
 -- A LET-ALL
 

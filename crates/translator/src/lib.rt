@@ -10,13 +10,14 @@ ghost use Rattle.record.specs.Answers.{padded};
 ghost use Rattle.record.specs.Front.{u16};
 ghost use Rattle.record.specs.Header.{encode_term};
 ghost use Rattle.record.specs.Holding.{ProgramIn};
+ghost use Rattle.record.specs.Kind.{kind_number};
 ghost use Rattle.translator.specs.RowTranslation.{RowAt, all_bytes, row_bytes, row_size};
 ghost use Rattle.translator.specs.TranslationHeads.{lead_of, let_all_head, let_one_head, let_one_size};
 ghost use Rattle.translator.specs.TranslationTasks.{Opens, PartsOf, TaskIn, cut_at, past_heads, task};
 
 use edit::{put_head, put_header, put_lead, put_leaf};
-use record::kind::{ASSIGNMENT, LET_ALL, LET_ONE, LOOP, PLUS_ONE, REC, REFERENCE, TUPLE};
-use record::{Header, Sort};
+use record::kind::Kind;
+use record::{Header, Sort, tuple_size};
 
 // A row of commands, from `from` up to `to` in the source, and the place of its translation, from `start` up to `stop` in
 // the output.
@@ -35,25 +36,19 @@ struct Parts {
     rest: Task,
 }
 
-fn tuple_size(k: u32) -> usize
-    ensures { result ≡ 4 + 8 * k }
-{
-    4 + 8 * (k as usize)
-}
-
 fn let_one_size(src: &[u8], at: usize) -> usize
-    requires { at + 16 ≤ length src.now }
+    requires { (at + 16 ≤ length src.now) × (16 ≤ u16 src.now (at + 10)) × (u16 src.now (at + 10) ≤ 19) }
     ensures { result ≡ let_one_size (ltb (u16 src.now (at + 10)) 18) }
 {
-    if buffer::get_u16(src, at + 10) < PLUS_ONE {
-        16
-    } else {
-        20
+    match Kind::read_expression(src, at + 10) {
+        Kind::Literal | Kind::Variable => 16,
+        _ => 20,
     }
 }
 
 // Commands are met in the order of their bytes, at whatever depth, so this needs no stack: each adds what its translation has
 // besides those of its rows, and each row ends with a tuple.
+// Kept: the place steps by hand, since an iterator is no plainer: it would read each kind once more for the step that stands here beside what is added.
 pub fn row_size(src: &[u8], from: usize, to: usize, k: u32) -> usize
     requires { (RowAt src.now from to) × (k ≤ 16) }
     ensures { (h : RowAt src.now from to) → result ≡ row_size k h.block }
@@ -62,16 +57,19 @@ pub fn row_size(src: &[u8], from: usize, to: usize, k: u32) -> usize
     let mut total = tuple;
     let mut at = from;
     while at < to {
-        let kind = buffer::get_u16(src, at + 2);
-        if kind == ASSIGNMENT {
-            total += let_one_size(src, at);
-            at += 16;
-        } else if kind == LOOP {
-            total += 20 + 2 * tuple;
-            at += 20;
-        } else {
-            total += 4 + tuple;
-            at += 4;
+        match Kind::read(src, at + 2) {
+            Kind::Assignment => {
+                total += let_one_size(src, at);
+                at += 16;
+            }
+            Kind::Loop => {
+                total += 20 + 2 * tuple;
+                at += 20;
+            }
+            _ => {
+                total += 4 + tuple;
+                at += 4;
+            }
         }
     }
     total
@@ -90,43 +88,45 @@ fn write_tuple(out: &mut [u8], o: usize, k: u32)
     requires { (o + (4 + 8 * k) ≤ length out.old) × (k ≤ 16) }
     ensures { out.new ≡ put out.old o (all_bytes k) }
 {
-    put_head(out, o, TUPLE, tuple_size(k));
+    put_head(out, o, Kind::Tuple, tuple_size(k));
     let mut p = o + 4;
-    let mut x = 1;
-    while x <= k {
-        put_leaf(out, p, REFERENCE, x);
+    for x in 1..k + 1 {
+        put_leaf(out, p, Kind::Reference, x);
         p += 8;
-        x += 1;
     }
 }
 
 // What a let-one of an atom, or a rec, begins with, of the assignment or the loop at `at`. Each number is one move; a copy of
-// the bytes would go one by one.
-fn write_lead(src: &[u8], at: usize, out: &mut [u8], o: usize, kind: usize, n: usize)
-    requires { (at + 16 ≤ length src.now) × (o + 16 ≤ length out.old) }
-    ensures { out.new ≡ put out.old o (lead_of kind n src.now at) }
+// the bytes would go one by one. Put in at both its calls, it spares each let-one an instruction.
+#[inline(always)]
+fn write_lead(src: &[u8], at: usize, out: &mut [u8], o: usize, kind: Kind, n: usize)
+    requires { (at + 16 ≤ length src.now) × (16 ≤ u16 src.now (at + 10)) × (u16 src.now (at + 10) ≤ 19) × (o + 16 ≤ length out.old) }
+    ensures { out.new ≡ put out.old o (lead_of (kind_number kind) n src.now at) }
 {
     let x = buffer::get_u32(src, at + 4);
-    let leaf = buffer::get_u16(src, at + 10) + 16;
+    let leaf = Kind::read_expression(src, at + 10).in_term();
     let v = buffer::get_u32(src, at + 12);
     put_lead(out, o, kind, n, x, leaf, v);
 }
 
 // Gives where the let-one's last term goes.
 fn write_let_one(src: &[u8], at: usize, out: &mut [u8], o: usize, n: usize) -> usize
-    requires { (at + 16 ≤ length src.now) × (o + 20 ≤ length out.old) }
+    requires { (at + 16 ≤ length src.now) × (16 ≤ u16 src.now (at + 10)) × (u16 src.now (at + 10) ≤ 19) × (o + 20 ≤ length out.old) }
     ensures { (out.new ≡ put out.old o (let_one_head src.now at n)) × (result ≡ o + let_one_size (ltb (u16 src.now (at + 10)) 18)) }
 {
-    let kind = buffer::get_u16(src, at + 10);
-    if kind < PLUS_ONE {
-        write_lead(src, at, out, o, LET_ONE, n);
-        return o + 16;
+    match Kind::read_expression(src, at + 10) {
+        Kind::Literal | Kind::Variable => {
+            write_lead(src, at, out, o, Kind::LetOne, n);
+            o + 16
+        }
+        kind => {
+            put_head(out, o, Kind::LetOne, n);
+            buffer::put_u32(out, o + 4, buffer::get_u32(src, at + 4));
+            put_head(out, o + 8, kind.in_term(), 12);
+            put_leaf(out, o + 12, Kind::Reference, buffer::get_u32(src, at + 12));
+            o + 20
+        }
     }
-    put_head(out, o, LET_ONE, n);
-    buffer::put_u32(out, o + 4, buffer::get_u32(src, at + 4));
-    put_head(out, o + 8, kind + 16, 12);
-    put_leaf(out, o + 12, REFERENCE, buffer::get_u32(src, at + 12));
-    o + 20
 }
 
 // A task from the row inside its first command on.
@@ -134,19 +134,18 @@ fn past_heads(src: &[u8], whole: Task, k: u32) -> Task
     requires { (TaskIn k src.now whole) × (whole.from < whole.to) }
     ensures { result ≡ past_heads k src.now whole }
 {
-    if buffer::get_u16(src, whole.from + 2) == LOOP {
-        return Task {
+    if Kind::Loop.stands_at(src, whole.from + 2) {
+        Task {
             from: whole.from + 20,
-            to: whole.to,
             start: whole.start + 20 + tuple_size(k),
-            stop: whole.stop,
-        };
-    }
-    Task {
-        from: whole.from + 4,
-        to: whole.to,
-        start: whole.start + 4,
-        stop: whole.stop,
+            ..whole
+        }
+    } else {
+        Task {
+            from: whole.from + 4,
+            start: whole.start + 4,
+            ..whole
+        }
     }
 }
 
@@ -155,16 +154,14 @@ fn cut(task: Task, next: usize, mid: usize) -> Parts
 {
     Parts {
         inner: Task {
-            from: task.from,
             to: next,
-            start: task.start,
             stop: mid,
+            ..task
         },
         rest: Task {
             from: next,
-            to: task.to,
             start: mid,
-            stop: task.stop,
+            ..task
         },
     }
 }
@@ -190,17 +187,18 @@ fn write_let_all(src: &[u8], whole: Task, inner: Task, k: u32, out: &mut [u8])
     ensures { out.new ≡ put out.old whole.start (let_all_head k src.now whole.from (whole.stop - whole.start) (inner.stop - inner.start)) }
 {
     let o = whole.start;
-    put_head(out, o, LET_ALL, whole.stop - o);
-    if buffer::get_u16(src, whole.from + 2) == LOOP {
+    put_head(out, o, Kind::LetAll, whole.stop - o);
+    if Kind::Loop.stands_at(src, whole.from + 2) {
         let n = 16 + tuple_size(k) + (inner.stop - inner.start);
-        write_lead(src, whole.from, out, o + 4, REC, n);
+        write_lead(src, whole.from, out, o + 4, Kind::Rec, n);
         write_tuple(out, o + 20, k);
     }
 }
 
 // Of a let-all's two rows the shorter is written by a call and the longer by the loop, so the calls nest no deeper than the
-// logarithm of the length. For the stack's sake a task is handed on in numbers, the call stands at one place, and a row with no
-// command, of which only the tuple is left to write, takes none.
+// logarithm of the length. For the stack's sake the call stands at one place, and a row with no command, of which only the tuple
+// is left to write, takes none.
+// Kept: the task in four numbers, since a batch may take 2.2 KB of stack (tests/tests/stack.rs): as a struct, at two places, it took 3,136 bytes.
 fn write_row(src: &[u8], from: usize, to: usize, start: usize, stop: usize, k: u32, out: &mut [u8])
     requires { (TaskIn k src.now (task from to start stop)) × (stop ≤ length out.old) }
     ensures { (h : TaskIn k src.now (task from to start stop)) → out.new ≡ put out.old start (row_bytes k h.row.block) }
@@ -211,8 +209,9 @@ fn write_row(src: &[u8], from: usize, to: usize, start: usize, stop: usize, k: u
         start,
         stop,
     };
+    // Kept: what is left is one of two rows that the first command shows, and the other goes to a call: no iterator goes on so.
     while left.from < left.to {
-        if buffer::get_u16(src, left.from + 2) == ASSIGNMENT {
+        if Kind::Assignment.stands_at(src, left.from + 2) {
             left.start = write_let_one(src, left.from, out, left.start, left.stop - left.start);
             left.from += 16;
         } else {

@@ -22,32 +22,36 @@ ghost use Rattle.term.specs.Answer.{as_substituted, as_wrote};
 ghost use Rattle.term.specs.Calls.{read_back_call, result_call, substitute_call, translate_call};
 ghost use Rattle.weighing.specs.Weigh.{weigh_call};
 
+use conversion::convert;
+use record::refusal::number_of;
+use record::{Conversion, Sort};
+
 #[unsafe(no_mangle)]
 pub extern "C" fn vistrokk_check_program(buf: &[u8], used: usize) -> checker::Checked
     ensures { as_checked result ≡ check_program buf.now used }
 {
-    program_checker::check_program(buf, used)
+    program_checker::check_program(buf, used).into()
 }
 
 #[unsafe(no_mangle)]
 pub extern "C" fn vistrokk_check_term(buf: &[u8], used: usize) -> checker::Checked
     ensures { as_checked result ≡ check_term buf.now used }
 {
-    term_checker::check_term(buf, used)
+    term_checker::check_term(buf, used).into()
 }
 
 #[unsafe(no_mangle)]
 pub extern "C" fn vistrokk_translate(src: &[u8], used: usize, out: &mut [u8]) -> term::Written
     ensures { as_wrote result out.new ≡ translate_call src.now used out.old }
 {
-    term::translate::translate(src, used, out)
+    term::translate::translate(src, used, out).into()
 }
 
 #[unsafe(no_mangle)]
 pub extern "C" fn vistrokk_read_back(src: &[u8], used: usize, out: &mut [u8]) -> term::Written
     ensures { as_wrote result out.new ≡ read_back_call src.now used out.old }
 {
-    term::read_back::read_back(src, used, out)
+    term::read_back::read_back(src, used, out).into()
 }
 
 #[unsafe(no_mangle)]
@@ -58,21 +62,21 @@ pub extern "C" fn vistrokk_substitute(
 ) -> term::substitute::Substituted
     ensures { as_substituted result buf.new ≡ substitute_call buf.old used store.now }
 {
-    term::substitute::substitute(buf, used, store)
+    term::substitute::substitute(buf, used, store).into()
 }
 
 #[unsafe(no_mangle)]
 pub extern "C" fn vistrokk_result(buf: &[u8], used: usize, store: &mut [u32]) -> u32
     ensures { (result ≡ (result_call buf.now used store.old).number) × (store.new ≡ (result_call buf.now used store.old).store) }
 {
-    term::result::result(buf, used, store)
+    number_of(term::result::result(buf, used, store))
 }
 
 #[unsafe(no_mangle)]
 pub extern "C" fn vistrokk_weigh(rule: u32, gross: u32, tare: u32, store: &mut [u32]) -> u32
     ensures { (result ≡ (weigh_call rule gross tare store.old).number) × (store.new ≡ (weigh_call rule gross tare store.old).store) }
 {
-    weighing::weigh(rule, gross, tare, store)
+    number_of(weighing::weigh(rule, gross, tare, store))
 }
 
 #[unsafe(no_mangle)]
@@ -84,7 +88,7 @@ pub extern "C" fn vistrokk_run_stepper(
 ) -> run::RunNumbers
     ensures { (result ≡ in_numbers (run_stepper buf.old used store.old budget).answer) × (buf.new ≡ (run_stepper buf.old used store.old budget).buf) × (store.new ≡ (run_stepper buf.old used store.old budget).store) }
 {
-    run::in_numbers(stepper::run_stepper(buf, used, store, budget))
+    stepper::run_stepper(buf, used, store, budget).into()
 }
 
 #[unsafe(no_mangle)]
@@ -95,7 +99,7 @@ pub extern "C" fn vistrokk_run_reducer(
 ) -> reducer::answer::ReducedNumbers
     ensures { (result ≡ reducer.in_numbers (run_reducer buf.old used budget).answer (run_reducer buf.old used budget).replaced) × (buf.new ≡ (run_reducer buf.old used budget).buf) }
 {
-    reducer::answer::in_numbers(reducer::run_reducer(buf, used, budget))
+    reducer::run_reducer(buf, used, budget).into()
 }
 
 #[unsafe(no_mangle)]
@@ -108,7 +112,7 @@ pub extern "C" fn vistrokk_run_counting(
 ) -> counter::answer::CountedNumbers
     ensures { (result ≡ counter.in_numbers (run_counting program.now used state.old store.old budget).answer) × (state.new ≡ (run_counting program.now used state.old store.old budget).words) × (store.new ≡ (run_counting program.now used state.old store.old budget).store) }
 {
-    counter::answer::in_numbers(counter::run_counting(program, used, state, store, budget))
+    counter::run_counting(program, used, state, store, budget).into()
 }
 
 #[unsafe(no_mangle)]
@@ -121,7 +125,7 @@ pub extern "C" fn vistrokk_expand(
 ) -> term::Written
     ensures { as_wrote result out.new ≡ expand_call program.now used state.now store.now out.old }
 {
-    counter::expand::expand(program, used, state, store, out)
+    counter::expand::expand(program, used, state, store, out).into()
 }
 
 #[unsafe(no_mangle)]
@@ -136,7 +140,7 @@ pub extern "C" fn vistrokk_run_batch(
 ) -> term::Written
     ensures { as_batch result term.new work.new answers.new ≡ run_batch program.now used term.old work.old budgets.now values.now answers.old }
 {
-    batch::run_batch(program, used, term, work, budgets, values, answers)
+    batch::run_batch(program, used, term, work, budgets, values, answers).into()
 }
 
 #[unsafe(no_mangle)]
@@ -147,7 +151,7 @@ pub extern "C" fn vistrokk_program_to_edition_2(
 ) -> term::Written
     ensures { as_wrote result out.new ≡ convert_call program ToSecond src.now used out.old }
 {
-    conversion::program_to_second(src, used, out)
+    convert(src, used, Sort::Program, Conversion::ToSecond, out).into()
 }
 
 #[unsafe(no_mangle)]
@@ -158,7 +162,7 @@ pub extern "C" fn vistrokk_program_to_edition_1(
 ) -> term::Written
     ensures { as_wrote result out.new ≡ convert_call program ToFirst src.now used out.old }
 {
-    conversion::program_to_first(src, used, out)
+    convert(src, used, Sort::Program, Conversion::ToFirst, out).into()
 }
 
 #[unsafe(no_mangle)]
@@ -169,7 +173,7 @@ pub extern "C" fn vistrokk_term_to_edition_2(
 ) -> term::Written
     ensures { as_wrote result out.new ≡ convert_call term ToSecond src.now used out.old }
 {
-    conversion::term_to_second(src, used, out)
+    convert(src, used, Sort::Term, Conversion::ToSecond, out).into()
 }
 
 #[unsafe(no_mangle)]
@@ -180,7 +184,7 @@ pub extern "C" fn vistrokk_term_to_edition_1(
 ) -> term::Written
     ensures { as_wrote result out.new ≡ convert_call term ToFirst src.now used out.old }
 {
-    conversion::term_to_first(src, used, out)
+    convert(src, used, Sort::Term, Conversion::ToFirst, out).into()
 }
 
 #[unsafe(no_mangle)]
@@ -191,5 +195,5 @@ pub extern "C" fn vistrokk_forecast_run(
 ) -> forecaster::Forecast
     ensures { as_forecast result ≡ forecast_call buf.now used store.now }
 {
-    forecaster::forecast_run(buf, used, store)
+    forecaster::forecast_run(buf, used, store).into()
 }

@@ -17,6 +17,9 @@ use Rattle.record.proofs.AnswerLaws.{stored-accepted, stored-number, stored_refu
 use Rattle.record.proofs.RowLaws.{first-applies, first-none, first-skips, none_first, not-intro}
 use Rattle.record.proofs.RowMeaningLaws.{not_iff}
 use Rattle.rules.proofs.ScopeLaws.{in_range-within, within-in_range}
+use Rattle.weighing.specs.declared.Rule.{Rule}
+use Rattle.weighing.specs.declared.Rule.TheVariants.{Down, Nearest}
+use Rattle.weighing.specs.RuleNumber.{rule_number}
 use Rattle.weighing.specs.Weigh.{apart, bad_size, bad_rule, count_of, net_load, tare_larger, weigh_call, weigh_rows, weighed}
 use Rattle.weighing.specs.WeighMeaning.{IsRule, WeighMeans}
 
@@ -67,6 +70,10 @@ nearest : (n m : ℕ) → apart n (20 * count_of 2 n) ≤ apart n (20 * m)
 unfolding count_of
 nearest n m = omega arith
 
+pub rule-numbered : (rule : Rule) → Within 2 (rule_number rule)
+rule-numbered Down = (omega arith, omega arith)
+rule-numbered Nearest = (omega arith, omega arith)
+
 rule-is : (rule : ℕ) → Within 2 rule → IsRule rule
 rule-is zero w = absurd (omega (arith, w.0))
 rule-is (suc zero) w = inl refl
@@ -77,21 +84,13 @@ rule-within : (rule : ℕ) → IsRule rule → Within 2 rule
 rule-within rule (inl e) = (omega arith, omega arith)
 rule-within rule (inr e) = (omega arith, omega arith)
 
--- the count by the rule's number, as its code tells the rules apart
-pub count_down : (rule net : ℕ) → rule ≡ 1 → count_of rule net ≡ net / 20
+count_down : (rule net : ℕ) → rule ≡ 1 → count_of rule net ≡ net / 20
 unfolding count_of
 count_down rule net e = rw e refl
 
-pub count-nearest : (rule net : ℕ) → rule ≡ 2 → count_of rule net ≡ (net + 10) / 20
+count-nearest : (rule net : ℕ) → rule ≡ 2 → count_of rule net ≡ (net + 10) / 20
 unfolding count_of
 count-nearest rule net e = rw e refl
-
-pub count_none : (rule net : ℕ) → (rule ≡ 1 → ⊥) → (rule ≡ 2 → ⊥) → count_of rule net ≡ 0
-unfolding count_of
-count_none zero net a b = refl
-count_none (suc zero) net a b = absurd (a refl)
-count_none (suc (suc zero)) net a b = absurd (b refl)
-count_none (suc (suc (suc other))) net a b = refl
 
 -- by either rule the count times 20 is less than 20 from the net load, and the count is no more than the net load
 count-close : (rule net : ℕ) → IsRule rule → (20 * count_of rule net < net + 20) × (net < 20 * count_of rule net + 20)

@@ -1,2 +1,3 @@
+pub mod RuleNumber
 pub mod Weigh
 pub mod WeighMeaning

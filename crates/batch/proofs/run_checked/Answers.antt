@@ -1,11 +1,11 @@
 -- Rows 6 and 10, or the term written, the jobs run and the reducer's buffer cleared.
-use mathlib.Core.Path.{◌∙◌, ap, refl}
+use mathlib.Core.Path.{◌∙◌, ap}
 use mathlib.Core.Logic.{inl, inr}
 use native.Mathlib.Omega.{arith}
-use lib.ListN.{length}
+use Prim.Native.Nat.{ℕ}
+use lib.ListN.{length, replicate}
 use Rattle.batch.proofs.AnswersLaws.{rows-small}
-use Rattle.batch.proofs.RunBatchLaws.{batch-answers, batch-six, batch-sixteen, batch-ten, batch-zero, given-term, values-small}
-use Rattle.batch.proofs.JobLaws.{cleared}
+use Rattle.batch.proofs.RunBatchLaws.{batch-six, batch-sixteen, batch-ten, batch-zero, given-term, values-small}
 use Rattle.buffer.specs.Slice.{zeros}
 use Rattle.rules.specs.Translation.{translate}
 use Rattle.batch.proofs.run_checked.Goals as goal
@@ -17,11 +17,11 @@ overflow_mul-count c =
 
 pub returns-then-values-count : goal.returns-then-values-count
 returns-then-values-count c =
-    batch-answers c.refused.ensures (batch-six c.args.program.now c.args.used c.args.term.now c.args.work.now c.args.budgets.now c.args.values.now c.args.answers.now c.requires.1 (inl c.if-values-count.true))
+    (batch-six c.args.program.now c.args.used c.args.term.now c.args.work.now c.args.budgets.now c.args.values.now c.args.answers.now c.requires.1 (inl c.if-values-count.true))
 
 pub returns-then-answers-count : goal.returns-then-answers-count
 returns-then-answers-count c =
-    batch-answers c.refused-then-answers-count.ensures (batch-six c.args.program.now c.args.used c.args.term.now c.args.work.now c.args.budgets.now c.args.values.now c.args.answers.now c.requires.1 (inr c.if-answers-count.true))
+    (batch-six c.args.program.now c.args.used c.args.term.now c.args.work.now c.args.budgets.now c.args.values.now c.args.answers.now c.requires.1 (inr c.if-answers-count.true))
 
 pub returns-then-some_above : goal.returns-then-some_above
 returns-then-some_above c =
@@ -29,7 +29,7 @@ returns-then-some_above c =
     let p = c.requires in
     let largest = c.largest in
     let above = c.some_above in
-    batch-answers c.refused-then-some_above.ensures (batch-sixteen a.program.now a.used a.term.now a.work.now a.budgets.now a.values.now a.answers.now p.1 c.if-values-count.false c.if-answers-count.false largest.result largest.ensures above.result above.ensures c.if-some_above.true)
+    (batch-sixteen a.program.now a.used a.term.now a.work.now a.budgets.now a.values.now a.answers.now p.1 c.if-values-count.false c.if-answers-count.false largest.result largest.ensures above.result above.ensures c.if-some_above.true)
 
 pub returns-then-term-n : goal.returns-then-term-n
 returns-then-term-n c =
@@ -40,7 +40,7 @@ returns-then-term-n c =
     let small = values-small a.program.now a.used a.term.now a.work.now a.budgets.now a.values.now a.answers.now p.1 c.if-values-count.false c.if-answers-count.false largest.result largest.ensures above.result above.ensures c.if-some_above.false in
     let size = c.translation_size-n in
     let e = size.ensures p.0 p.1.holds in
-    batch-answers c.refused-then-term-n.ensures (batch-ten a.program.now a.used a.term.now a.work.now a.budgets.now a.values.now a.answers.now p.1 c.if-values-count.false c.if-answers-count.false small size.result e (inl c.if-term-n.true))
+    (batch-ten a.program.now a.used a.term.now a.work.now a.budgets.now a.values.now a.answers.now p.1 c.if-values-count.false c.if-answers-count.false small size.result e (inl c.if-term-n.true))
 
 pub returns-then-work-n : goal.returns-then-work-n
 returns-then-work-n c =
@@ -51,7 +51,7 @@ returns-then-work-n c =
     let small = values-small a.program.now a.used a.term.now a.work.now a.budgets.now a.values.now a.answers.now p.1 c.if-values-count.false c.if-answers-count.false largest.result largest.ensures above.result above.ensures c.if-some_above.false in
     let size = c.translation_size-n in
     let e = size.ensures p.0 p.1.holds in
-    batch-answers c.refused-then-work-n.ensures (batch-ten a.program.now a.used a.term.now a.work.now a.budgets.now a.values.now a.answers.now p.1 c.if-values-count.false c.if-answers-count.false small size.result e (inr c.if-work-n.true))
+    (batch-ten a.program.now a.used a.term.now a.work.now a.budgets.now a.values.now a.answers.now p.1 c.if-values-count.false c.if-answers-count.false small size.result e (inr c.if-work-n.true))
 
 pub write_translation-requires : goal.write_translation-requires
 write_translation-requires c =
@@ -71,11 +71,12 @@ run_jobs-requires c =
     let w = c.write_translation.ensures p.0 p.1.holds in
     ((translate a.h.k p.0, given-term a.program.now a.used a.term.now a.work.now a.budgets.now a.values.now a.answers.now p.1 size.result e c.if-work-n.false c.write_translation.new.out w), p.1.many.1, c.if-values-count.false, small, c.if-answers-count.false)
 
-pub wrote-requires : goal.wrote-requires
-wrote-requires c =
+pub overflow_cast-result : goal.overflow_cast-result
+overflow_cast-result c =
     omega (arith, c.if-term-n.false, c.requires.1.low_term)
 
 pub returns : goal.returns
+unfolding zeros
 returns c =
     let a = c.args in
     let p = c.requires in
@@ -85,5 +86,4 @@ returns c =
     let size = c.translation_size-n in
     let e = size.ensures p.0 p.1.holds in
     let w = c.write_translation.ensures p.0 p.1.holds in
-    batch-answers c.wrote.ensures
-    (batch-zero a.program.now a.used a.term.now a.work.now a.budgets.now a.values.now a.answers.now p.1 c.if-values-count.false c.if-answers-count.false small size.result e c.if-term-n.false c.if-work-n.false c.write_translation.new.out w c.zero.new.buf (cleared c.run_jobs.new.work c.zero.new.buf _ refl c.zero.ensures ∙ ap zeros c.run_jobs.auto.work) c.run_jobs.new.answers c.run_jobs.ensures)
+    (batch-zero a.program.now a.used a.term.now a.work.now a.budgets.now a.values.now a.answers.now p.1 c.if-values-count.false c.if-answers-count.false small size.result e c.if-term-n.false c.if-work-n.false c.write_translation.new.out w _ (c.fill.ensures.after (λ y e. e) ∙ ap (λ (n : ℕ). replicate n 0) c.run_jobs.auto.work) c.run_jobs.new.answers c.run_jobs.ensures)

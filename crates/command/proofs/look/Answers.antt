@@ -1,5 +1,7 @@
-use mathlib.Core.Path.{sym, ◌∙◌}
 use native.Mathlib.Omega.{arith}
+use mathlib.Core.Path.{◌∙◌}
+use Rattle.record.proofs.KindLaws.{named-number, not-number}
+use Rattle.record.specs.declared.kind.Kind.TheVariants.{Assignment, Loop}
 use Rattle.rules.specs.Store.{up_to}
 use Rattle.command.proofs.LookLaws.{commands, first-assign, first-loop, plan-assign, plan-leave, plan-loop, plan-none, spot-room, whole}
 use Rattle.place.proofs.WholeLaws.{program-used}
@@ -20,48 +22,48 @@ open_levels-levels-requires c =
     let p = c.requires.1.1 in
     (c.requires.1.0, (whole p.0 p.1.1.1 p.1.0 c.if-used-start.false, commands p.0 p.1.1.1 p.1.0 c.if-used-start.false))
 
-pub overflow_mul-at : goal.overflow_mul-at
-overflow_mul-at c =
+pub overflow_mul-place : goal.overflow_mul-place
+overflow_mul-place c =
     let p = c.requires.1.1 in
     omega (arith, spot-room p.0 p.1.1.1 p.1.0 c.if-used-start.false c.open_levels-levels.ensures)
 
-pub overflow_add-at : goal.overflow_add-at
-overflow_add-at c =
+pub overflow_add-place : goal.overflow_add-place
+overflow_add-place c =
     let p = c.requires.1.1 in
     omega (arith, spot-room p.0 p.1.1.1 p.1.0 c.if-used-start.false c.open_levels-levels.ensures)
 
-pub overflow_add-at-2 : goal.overflow_add-at-2
-overflow_add-at-2 c =
+pub overflow_add-place-2 : goal.overflow_add-place-2
+overflow_add-place-2 c =
     let p = c.requires.1.1 in
     omega (arith, spot-room p.0 p.1.1.1 p.1.0 c.if-used-start.false c.open_levels-levels.ensures)
 
-pub get_u16-kind-requires : goal.get_u16-kind-requires
-get_u16-kind-requires c =
+pub read-requires : goal.read-requires
+read-requires c =
     let p = c.requires.1.1 in
     omega (arith, spot-room p.0 p.1.1.1 p.1.0 c.if-used-start.false c.open_levels-levels.ensures)
 
 pub look_assign-requires : goal.look_assign-requires
 look_assign-requires c =
     let p = c.requires.1.1 in
-    first-assign p.0 p.1.1.1 p.1.0 c.if-used-start.false c.open_levels-levels.ensures c.args.store.now p.1.1.0 (sym c.get_u16-kind.ensures.0 ∙ c.if-kind-eq-ASSIGNMENT.true)
+    first-assign p.0 p.1.1.1 p.1.0 c.if-used-start.false c.open_levels-levels.ensures c.args.store.now p.1.1.0 (named-number c.in-Assignment.ensures)
 
-pub returns-then-kind-eq-ASSIGNMENT : goal.returns-then-kind-eq-ASSIGNMENT
-returns-then-kind-eq-ASSIGNMENT c =
+pub returns-in-Assignment : goal.returns-in-Assignment
+returns-in-Assignment c =
     λ hd P h e st.
-    plan-assign h st c.requires.1.1.1.0 c.if-used-start.false c.open_levels-levels.ensures c.args.store.now e (up_to c.args.largest) (sym c.get_u16-kind.ensures.0 ∙ c.if-kind-eq-ASSIGNMENT.true) c.look_assign.ensures
+    plan-assign h st c.requires.1.1.1.0 c.if-used-start.false c.open_levels-levels.ensures c.args.store.now e (up_to c.args.largest) (named-number c.in-Assignment.ensures) c.look_assign.ensures
 
 pub look_loop-requires : goal.look_loop-requires
 look_loop-requires c =
     let p = c.requires.1.1 in
-    first-loop p.0 p.1.1.1 p.1.0 c.if-used-start.false c.open_levels-levels.ensures c.args.store.now p.1.1.0 (sym c.get_u16-kind.ensures.0 ∙ c.if-kind-eq-LOOP.true)
+    first-loop p.0 p.1.1.1 p.1.0 c.if-used-start.false c.open_levels-levels.ensures c.args.store.now p.1.1.0 (named-number c.in-Loop.ensures)
 
-pub returns-then-kind-eq-LOOP : goal.returns-then-kind-eq-LOOP
-returns-then-kind-eq-LOOP c =
+pub returns-in-Loop : goal.returns-in-Loop
+returns-in-Loop c =
     λ hd P h e st.
-    plan-loop h st c.requires.1.1.1.0 c.if-used-start.false c.open_levels-levels.ensures c.args.store.now e (up_to c.args.largest) (sym c.get_u16-kind.ensures.0 ∙ c.if-kind-eq-LOOP.true) c.look_loop.ensures
+    plan-loop h st c.requires.1.1.1.0 c.if-used-start.false c.open_levels-levels.ensures c.args.store.now e (up_to c.args.largest) (named-number c.in-Loop.ensures) c.look_loop.ensures
 
-pub returns : goal.returns
-returns c =
+pub returns-in_default : goal.returns-in_default
+returns-in_default c =
     λ hd P h e st.
     c.leave.ensures
-    ∙ plan-leave h st c.requires.1.1.1.0 c.if-used-start.false c.open_levels-levels.ensures c.args.store.now e (up_to c.args.largest) (λ z. c.if-kind-eq-ASSIGNMENT.false (c.get_u16-kind.ensures.0 ∙ z)) (λ z. c.if-kind-eq-LOOP.false (c.get_u16-kind.ensures.0 ∙ z))
+    ∙ plan-leave h st c.requires.1.1.1.0 c.if-used-start.false c.open_levels-levels.ensures c.args.store.now e (up_to c.args.largest) (not-number Assignment tt c.read.ensures c.in_default.not-Assignment) (not-number Loop tt c.read.ensures c.in_default.not-Loop)

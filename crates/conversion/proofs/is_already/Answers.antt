@@ -10,4 +10,4 @@ returns-then-used-lt4 c =
 
 pub returns : goal.returns
 returns c =
-    already-kind c.args.sort c.args.to c.args.src.now c.args.used c.if-used-lt4.false _ _ (c.get_u16.ensures.0 ∙ sym (kind_at c.args.src.now c.args.used c.if-used-lt4.false)) (c.converted_kind.ensures _)
+    already-kind c.args.sort c.args.to c.args.src.now c.args.used c.if-used-lt4.false _ _ (c.get_u16.ensures.0 ∙ sym (kind_at c.args.src.now c.args.used c.if-used-lt4.false)) (c.number.ensures ∙ c.converted_kind.ensures _)

@@ -4,13 +4,12 @@ use Rattle.expansion.specs.Writing.{Writing}
 use Rattle.rules.specs.Syntax.{Block}
 use Rattle.counting.specs.Counting.{State}
 use mathlib.Core.Path.{◌≡◌}
-use Prim.Native.Nat.{◌-◌, ◌≤◌}
+use Prim.Native.Nat.{◌*◌, ◌+◌, ◌≤◌}
 use lib.ListN.{length}
 use Rattle.expansion.proofs.write_expansion.Given as goal
 
-abbrev pub invariant-loop-at : goal.invariant-loop-at
-invariant-loop-at l =
-    (length l.out ≡ length l.initial.out) × (l.last ≤ length l.initial.out) × ((P : Block) → (s : State) → Given l.buf l.used l.words l.start P s → Writing l.buf l.words l.start s l.initial.out l.out l.front l.first l.last l.e l.p l.end)
-
-abbrev pub decreases-loop-at : goal.decreases-loop-at
-decreases-loop-at l = 189 - l.e
+abbrev pub invariant-loop-i : goal.invariant-loop-i
+invariant-loop-i l =
+    (length l.out ≡ length l.initial.out) × (l.hole.back ≤ length l.initial.out)
+    × ((P : Block) → (s : State) → Given l.program.bytes.now l.program.used l.words l.program.start P s
+    → Writing l.program.bytes.now l.words l.program.start s l.initial.out l.out l.front l.hole.front l.hole.back (3 + 6 * l.i) l.p l.end)

@@ -4,4 +4,5 @@ use Rattle.expansion.proofs.write_turn.Goals as goal
 
 pub returns : goal.returns
 returns c =
-    turn-led c.args.buf.now c.args.at c.args.n c.args.v c.args.out.now _ c.args.o c.write_led.ensures
+    let a = c.args in
+    turn-led a.piece.bytes.now a.piece.at a.piece.n a.v a.out.now _ a.o c.write_led.ensures

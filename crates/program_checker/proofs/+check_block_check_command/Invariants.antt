@@ -17,7 +17,7 @@ decreases-check_command l = 2 * length l.s.now
 
 abbrev pub invariant-check_block-loop-at : goal.invariant-check_block-loop-at
 invariant-check_block-loop-at l =
-    (l.at ≤ l.end) × (l.end ≤ length l.s) × (block_verdict l.k l.largest (decode_block l.s) ≡ worse l.found (row_verdict l.k l.largest l.s l.at l.end))
+    (l.at ≤ l.end) × (l.end ≤ length l.s) × (block_verdict l.limits.k l.limits.largest (decode_block l.s) ≡ worse l.found (row_verdict l.limits.k l.limits.largest l.s l.at l.end))
 
 abbrev pub decreases-check_block-loop-at : goal.decreases-check_block-loop-at
 decreases-check_block-loop-at l = l.end - l.at

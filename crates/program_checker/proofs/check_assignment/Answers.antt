@@ -14,11 +14,11 @@ use Rattle.program_checker.proofs.check_assignment.Goals as goal
 
 pub returns-then-s-ne16 : goal.returns-then-s-ne16
 returns-then-s-ne16 c =
-    sym (ap (block_verdict c.args.k c.args.largest) (decode-assign-no c.args.s.now c.requires.front c.requires.s_value (omega arith)))
+    sym (ap (block_verdict c.args.limits.k c.args.limits.largest) (decode-assign-no c.args.s.now c.requires.front c.requires.s_value (omega arith)))
 
 pub returns : goal.returns
 returns c =
     let s = c.args.s.now in
     c.worst.ensures
-    ∙ ap₂ worse (c.check_variable.ensures ∙ ap (λ (x : ℕ). rated (in_range c.args.k x)) c.get_u32.ensures) c.check_expression.ensures
-    ∙ sym (ap (block_verdict c.args.k c.args.largest) (decode-assign s c.requires.front c.requires.s_value (omega arith)) ∙ assign-verdict c.args.k c.args.largest (u32 s 4) (only (read_expr (take 8 (drop 8 s)))))
+    ∙ ap₂ worse (c.check_variable.ensures ∙ ap (λ (x : ℕ). rated (in_range c.args.limits.k x)) c.get_u32.ensures) c.check_expression.ensures
+    ∙ sym (ap (block_verdict c.args.limits.k c.args.limits.largest) (decode-assign s c.requires.front c.requires.s_value (omega arith)) ∙ assign-verdict c.args.limits.k c.args.limits.largest (u32 s 4) (only (read_expr (take 8 (drop 8 s)))))

@@ -33,8 +33,8 @@ pub returns-then-only_at : goal.returns-then-only_at
 returns-then-only_at c =
     let s = c.args.s.now in
     let start = c.args.start in
-    c.check_block.ensures ∙ ap (block_verdict c.args.k c.args.largest) (ap decode_block (between-rest s (start + 4) ∙ sym (drop-drop 4 start s)) ∙ sym (block_in-only (drop start s) (sym c.only_at.ensures ∙ c.if-only_at.true)))
+    c.check_block.ensures ∙ ap (block_verdict c.args.limits.k c.args.limits.largest) (ap decode_block (between-rest s (start + 4) ∙ sym (drop-drop 4 start s)) ∙ sym (block_in-only (drop start s) (sym c.only_at.ensures ∙ c.if-only_at.true)))
 
 pub returns-else-only_at : goal.returns-else-only_at
 returns-else-only_at c =
-    sym (ap (block_verdict c.args.k c.args.largest) (block_in-not (drop c.args.start c.args.s.now) (sym c.only_at.ensures ∙ c.if-only_at.false)))
+    sym (ap (block_verdict c.args.limits.k c.args.limits.largest) (block_in-not (drop c.args.start c.args.s.now) (sym c.only_at.ensures ∙ c.if-only_at.false)))

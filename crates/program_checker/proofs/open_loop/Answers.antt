@@ -16,13 +16,13 @@ use Rattle.program_checker.proofs.open_loop.Goals as goal
 
 pub returns-then-s-lt20 : goal.returns-then-s-lt20
 returns-then-s-lt20 c =
-    opens-none c.args.k c.args.largest c.args.s.now c.no_command.ensures c.requires.front.least (decode-loop-no c.args.s.now c.requires.front c.requires.s_value (λ x y. omega arith))
+    opens-none c.args.limits.k c.args.limits.largest c.args.s.now c.no_command.ensures c.requires.front.least (decode-loop-no c.args.s.now c.requires.front c.requires.s_value (λ x y. omega arith))
 
 pub returns-then-only_at : goal.returns-then-only_at
 returns-then-only_at c =
     let s = c.args.s.now in
-    let k = c.args.k in
-    let largest = c.args.largest in
+    let k = c.args.limits.k in
+    let largest = c.args.limits.largest in
     let is_Block = sym c.only_at.ensures ∙ c.if-only_at.true in
     record {
       least = omega arith;
@@ -36,4 +36,4 @@ pub returns-else-only_at : goal.returns-else-only_at
 returns-else-only_at c =
     let s = c.args.s.now in
     let not-only = sym c.only_at.ensures ∙ c.if-only_at.false in
-    opens-none c.args.k c.args.largest s c.no_command-else-only_at.ensures c.requires.front.least (decode-loop-no s c.requires.front c.requires.s_value (λ x y. true-false (sym y ∙ not-only)))
+    opens-none c.args.limits.k c.args.limits.largest s c.no_command-else-only_at.ensures c.requires.front.least (decode-loop-no s c.requires.front c.requires.s_value (λ x y. true-false (sym y ∙ not-only)))

@@ -1,41 +1,23 @@
 use native.Mathlib.Omega.{arith}
 use mathlib.Core.Path.{ap, ◌∙◌}
-use Prim.Native.Nat.{◌+◌, ◌-◌, ℕ}
+use Prim.Native.Nat.{◌+◌, ℕ}
 use Rattle.buffer.specs.Slice.{put}
 use Rattle.place.specs.Edit.{lead}
 use Rattle.place.specs.Heads.{record_head}
+use Rattle.record.specs.Kind.{kind_number}
+use Rattle.record.proofs.KindLaws.{in_program-number}
 use Rattle.buffer.proofs.StoresLaws.{stores-2}
 use Rattle.place.proofs.EditLaws.{length-lead}
 use Rattle.readback.proofs.PieceLaws.{rec-bytes, rec-room}
 use Rattle.readback.proofs.open_loop.Goals as goal
-
-pub overflow_add-at : goal.overflow_add-at
-overflow_add-at c =
-    let q = c.requires.0 in
-    omega (arith, rec-room q.1 q.2 q.3 q.4)
 
 pub get_u32-x-requires : goal.get_u32-x-requires
 get_u32-x-requires c =
     let q = c.requires.0 in
     omega (arith, rec-room q.1 q.2 q.3 q.4)
 
-pub overflow_add-at-2 : goal.overflow_add-at-2
-overflow_add-at-2 c =
-    let q = c.requires.0 in
-    omega (arith, rec-room q.1 q.2 q.3 q.4)
-
-pub get_u16-bound-requires : goal.get_u16-bound-requires
-get_u16-bound-requires c =
-    let q = c.requires.0 in
-    omega (arith, rec-room q.1 q.2 q.3 q.4)
-
-pub overflow_sub-bound : goal.overflow_sub-bound
-overflow_sub-bound c =
-    let q = c.requires.0 in
-    omega (arith, rec-room q.1 q.2 q.3 q.4, c.get_u16-bound.ensures.0)
-
-pub overflow_add-at-3 : goal.overflow_add-at-3
-overflow_add-at-3 c =
+pub read_atom-requires : goal.read_atom-requires
+read_atom-requires c =
     let q = c.requires.0 in
     omega (arith, rec-room q.1 q.2 q.3 q.4)
 
@@ -48,6 +30,9 @@ pub returns : goal.returns
 returns c =
     λ k x n b h.
     let a = c.args in
-    let l = lead 3 a.head c.get_u32-x.result (c.get_u16-bound.result - 16) c.get_u32-v.result in
-    stores-2 a.out.now _ _ l (record_head 1 0) a.o (a.o + 16) c.put_lead.ensures c.put_head.ensures (ap (λ (y : ℕ). a.o + y) (length-lead 3 a.head c.get_u32-x.result (c.get_u16-bound.result - 16) c.get_u32-v.result)) (omega (arith, c.requires.1))
-    ∙ ap (put a.out.now a.o) (rec-bytes x n b h c.get_u32-x.result (c.get_u16-bound.result - 16) c.get_u32-v.result a.head 0 c.get_u32-x.ensures (ap (λ (y : ℕ). y - 16) c.get_u16-bound.ensures.0) c.get_u32-v.ensures)
+    let room = rec-room x n b h in
+    let bound = ap kind_number c.in_program-bound.ensures ∙ in_program-number c.read_atom.ensures room.1 room.2 in
+    let kind = kind_number c.in_program-bound.result in
+    let l = lead 3 a.head c.get_u32-x.result kind c.get_u32-v.result in
+    stores-2 a.out.now _ _ l (record_head 1 0) a.o (a.o + 16) c.put_lead.ensures c.put_head.ensures (ap (λ (y : ℕ). a.o + y) (length-lead 3 a.head c.get_u32-x.result kind c.get_u32-v.result)) (omega (arith, c.requires.1))
+    ∙ ap (put a.out.now a.o) (rec-bytes x n b h c.get_u32-x.result kind c.get_u32-v.result a.head 0 c.get_u32-x.ensures bound c.get_u32-v.ensures)

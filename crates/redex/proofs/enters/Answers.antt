@@ -1,21 +1,23 @@
-use mathlib.Core.Path.{sym, ◌∙◌}
+use mathlib.Core.Path.{◌∙◌, ap, sym}
+use mathlib.Core.Bool.{not}
 use native.Mathlib.Omega.{arith}
 use Rattle.place.proofs.TermPathLaws.{enters-kind, enters-tuple, enters-yes}
+use Rattle.record.proofs.KindLaws.{named-number, not-number}
+use Rattle.record.specs.declared.kind.Kind.TheVariants.{LetAll, Tuple}
+use Rattle.redex.proofs.enters.Goals.{in-Tuple, in_default-matches}
 use Rattle.redex.proofs.enters.Goals as goal
 
-pub get_u16-requires-then-get_u16-eq-LET_ALL : goal.get_u16-requires-then-get_u16-eq-LET_ALL
-get_u16-requires-then-get_u16-eq-LET_ALL c =
-    let r = c.requires.1 (sym c.get_u16.ensures.0 ∙ c.if-get_u16-eq-LET_ALL.true) in
-    omega (arith, r)
+pub read-requires-in-LetAll : goal.read-requires-in-LetAll
+read-requires-in-LetAll c = omega (arith, c.requires.1 (named-number c.in-LetAll.ensures))
 
-pub returns-then-get_u16-eq-TUPLE : goal.returns-then-get_u16-eq-TUPLE
-returns-then-get_u16-eq-TUPLE c =
-    sym (enters-tuple c.args.buf.now c.args.p (sym c.get_u16.ensures.0 ∙ c.if-get_u16-eq-LET_ALL.true) (sym c.get_u16-then-get_u16-eq-LET_ALL.ensures.0 ∙ c.if-get_u16-eq-TUPLE.true))
+pub returns-after-matches : goal.returns-after-matches
+returns-after-matches c =
+    elim c.match-matches.branch [
+      | in-Tuple w ↦
+          ap not w.matches-is ∙ sym (enters-tuple c.args.buf.now c.args.p (named-number c.in-LetAll.ensures) (named-number w.in-Tuple.ensures))
+      | in_default-matches w ↦
+          ap not w.matches-is ∙ sym (enters-yes c.args.buf.now c.args.p (named-number c.in-LetAll.ensures) (not-number Tuple tt c.read-in-LetAll.ensures w.in_default-matches.not-Tuple))
+    ]
 
-pub returns-then-get_u16-eq-LET_ALL : goal.returns-then-get_u16-eq-LET_ALL
-returns-then-get_u16-eq-LET_ALL c =
-    sym (enters-yes c.args.buf.now c.args.p (sym c.get_u16.ensures.0 ∙ c.if-get_u16-eq-LET_ALL.true) (λ e. c.if-get_u16-eq-TUPLE.false (c.get_u16-then-get_u16-eq-LET_ALL.ensures.0 ∙ e)))
-
-pub returns : goal.returns
-returns c =
-    sym (enters-kind c.args.buf.now c.args.p (λ e. c.if-get_u16-eq-LET_ALL.false (c.get_u16.ensures.0 ∙ e)))
+pub returns-in_default : goal.returns-in_default
+returns-in_default c = sym (enters-kind c.args.buf.now c.args.p (not-number LetAll tt c.read.ensures c.in_default.not-LetAll))

@@ -1,51 +1,40 @@
-use mathlib.Core.Path.{sym, ◌∙◌}
-use native.Mathlib.Omega.{arith}
+use mathlib.Core.Path.{◌∙◌}
+use Rattle.std.proofs.Common.{arith}
+use Rattle.record.proofs.KindLaws.{named-number, not-number}
+use Rattle.record.specs.declared.kind.Kind.TheVariants.{Numeral, Pred}
 use Rattle.redex.proofs.LookLaws.{let-atom, let-pred, let-succ, one-room}
 use Rattle.rules.specs.Store.{up_to}
 use Rattle.redex.proofs.look_let_one.Goals as goal
 
-pub overflow_add-at : goal.overflow_add-at
-overflow_add-at c = omega (arith, one-room c.requires.0.1.1 c.requires.1)
-
 pub get_u32-variable-requires : goal.get_u32-variable-requires
 get_u32-variable-requires c = omega (arith, one-room c.requires.0.1.1 c.requires.1)
 
-pub overflow_add-at-2 : goal.overflow_add-at-2
-overflow_add-at-2 c = omega (arith, one-room c.requires.0.1.1 c.requires.1)
-
-pub get_u16-kind-requires : goal.get_u16-kind-requires
-get_u16-kind-requires c = omega (arith, one-room c.requires.0.1.1 c.requires.1)
-
-pub overflow_add-at-then-kind-eq-NUMERAL : goal.overflow_add-at-then-kind-eq-NUMERAL
-overflow_add-at-then-kind-eq-NUMERAL c =
-    omega (arith, one-room c.requires.0.1.1 c.requires.1)
+pub read-requires : goal.read-requires
+read-requires c = omega (arith, one-room c.requires.0.1.1 c.requires.1)
 
 pub get_u32-requires : goal.get_u32-requires
-get_u32-requires c =
-    omega (arith, one-room c.requires.0.1.1 c.requires.1)
+get_u32-requires c = omega (arith, one-room c.requires.0.1.1 c.requires.1)
 
-pub returns-then-kind-eq-NUMERAL : goal.returns-then-kind-eq-NUMERAL
-returns-then-kind-eq-NUMERAL c =
+pub returns-in-Numeral : goal.returns-in-Numeral
+returns-in-Numeral c =
     λ k t h s.
     c.bind.ensures
-    ∙ let-atom h c.requires.1 s (up_to c.args.largest) c.args.levels c.get_u32-variable.result c.get_u32-variable.ensures (sym c.get_u16-kind.ensures.0 ∙ c.if-kind-eq-NUMERAL.true) c.get_u32.result c.get_u32.ensures
-
-pub overflow_add-at-3 : goal.overflow_add-at-3
-overflow_add-at-3 c =
-    omega (arith, one-room c.requires.0.1.1 c.requires.1)
+    ∙ let-atom h c.requires.1 s (up_to c.args.largest) c.args.place.levels c.get_u32-variable.result c.get_u32-variable.ensures (named-number c.in-Numeral.ensures) c.get_u32.result c.get_u32.ensures
 
 pub get_u32-value-requires : goal.get_u32-value-requires
-get_u32-value-requires c =
-    omega (arith, one-room c.requires.0.1.1 c.requires.1)
+get_u32-value-requires c = omega (arith, one-room c.requires.0.1.1 c.requires.1)
 
-pub returns-then-kind-eq-PRED : goal.returns-then-kind-eq-PRED
-returns-then-kind-eq-PRED c =
+pub returns-in-Pred : goal.returns-in-Pred
+returns-in-Pred c =
     λ k t h s.
     c.evaluate.ensures
-    ∙ let-pred h c.requires.1 s (up_to c.args.largest) c.args.levels c.get_u32-variable.result c.get_u32-variable.ensures (sym c.get_u16-kind.ensures.0 ∙ c.if-kind-eq-PRED.true) c.get_u32-value.result c.minus_one-less.result c.get_u32-value.ensures c.minus_one-less.ensures
+    ∙ let-pred h c.requires.1 s (up_to c.args.largest) c.args.place.levels c.get_u32-variable.result c.get_u32-variable.ensures (named-number c.in-Pred.ensures) c.get_u32-value.result c.minus_one.result c.get_u32-value.ensures c.minus_one.ensures
 
-pub returns : goal.returns
-returns c =
+pub get_u32-requires-in_default : goal.get_u32-requires-in_default
+get_u32-requires-in_default c = omega (arith, one-room c.requires.0.1.1 c.requires.1)
+
+pub returns-in_default : goal.returns-in_default
+returns-in_default c =
     λ k t h s.
     c.raise.ensures
-    ∙ let-succ h c.requires.1 s (up_to c.args.largest) c.args.levels c.get_u32-variable.result c.get_u32-variable.ensures (λ e. c.if-kind-eq-NUMERAL.false (c.get_u16-kind.ensures.0 ∙ e)) (λ e. c.if-kind-eq-PRED.false (c.get_u16-kind.ensures.0 ∙ e)) c.get_u32-value.result c.get_u32-value.ensures
+    ∙ let-succ h c.requires.1 s (up_to c.args.largest) c.args.place.levels c.get_u32-variable.result c.get_u32-variable.ensures (not-number Numeral tt c.read.ensures c.in_default.not-Numeral) (not-number Pred tt c.read.ensures c.in_default.not-Pred) c.get_u32-in_default.result c.get_u32-in_default.ensures

@@ -6,14 +6,8 @@ use Rattle.buffer.specs.Slice.{part}
 use Rattle.redex.proofs.LookLaws.{rec-plan, rec-room}
 use Rattle.redex.proofs.look_rec.Goals as goal
 
-pub overflow_add-at : goal.overflow_add-at
-overflow_add-at c = omega (arith, rec-room c.requires.0.1 c.requires.1)
-
 pub get_u32-variable-requires : goal.get_u32-variable-requires
 get_u32-variable-requires c = omega (arith, rec-room c.requires.0.1 c.requires.1)
-
-pub overflow_add-at-2 : goal.overflow_add-at-2
-overflow_add-at-2 c = omega (arith, rec-room c.requires.0.1 c.requires.1)
 
 pub get_u32-value-requires : goal.get_u32-value-requires
 get_u32-value-requires c = omega (arith, rec-room c.requires.0.1 c.requires.1)
@@ -29,6 +23,6 @@ overflow_sub-body c =
 pub returns : goal.returns
 returns c =
     λ t h s ok.
-    let b : c.get_u16.result - (20 + 8 * c.args.k) + (20 + 8 * c.args.k) ≡ val (part c.args.buf.now c.args.at 2) = omega (arith, rec-room h c.requires.1, c.get_u16.ensures.0) in
+    let b : c.get_u16.result - (20 + 8 * c.args.k) + (20 + 8 * c.args.k) ≡ val (part c.args.buf.now c.args.place.at 2) = omega (arith, rec-room h c.requires.1, c.get_u16.ensures.0) in
     c.turn.ensures
-    ∙ rec-plan h c.requires.1 s ok c.args.levels c.get_u32-variable.result (c.get_u16.result - (20 + 8 * c.args.k)) c.get_u32-value.result c.get_u32-variable.ensures b c.get_u32-value.ensures
+    ∙ rec-plan h c.requires.1 s ok c.args.place.levels c.get_u32-variable.result (c.get_u16.result - (20 + 8 * c.args.k)) c.get_u32-value.result c.get_u32-variable.ensures b c.get_u32-value.ensures

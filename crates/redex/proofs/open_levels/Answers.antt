@@ -1,48 +1,28 @@
-use mathlib.Core.Path.{◌≡◌, subst, sym, ◌∙◌}
-use Prim.Native.Nat.{ℕ, ◌+◌, ◌*◌}
-use native.Mathlib.Omega.{arith}
-use Rattle.place.specs.TermPath.{TermWalk}
-use Rattle.place.proofs.TermPathLaws.{term_walk-end, term_walk-first, term_walk-next, term_walk-room, term_walk-start}
+use Rattle.std.proofs.Common.{◌≡◌, ◌+◌, ◌*◌, ◌≤◌, length, arith, rules}
+use Rattle.buffer.specs.LittleEndian.{val}
+use Rattle.buffer.specs.Slice.{part}
+use Rattle.place.specs.TermPath.{term_path}
+use Rattle.place.proofs.TermPathLaws.{term_walk-first}
+use Rattle.plan.proofs.LevelsLaws.{come-to, heads-count, heads-end, heads-room}
+use Rattle.redex.proofs.LevelsLaws.{walks}
 use Rattle.redex.proofs.open_levels.Goals as goal
 
-pub loop-levels-init : goal.loop-levels-init
-loop-levels-init c =
-    let e : c.args.contents ≡ c.args.contents + 0 = omega arith in
-    λ k t h. subst (λ (n : ℕ). TermWalk t c.args.contents n) e (term_walk-start t c.args.contents)
-
-pub overflow_mul-levels : goal.overflow_mul-levels
-overflow_mul-levels c =
+pub levels-requires : goal.levels-requires
+levels-requires c =
     let h = c.requires.1.1 in
-    omega (arith, term_walk-room h (c.loop-levels.invariant c.requires.0 c.requires.1.0 h))
-
-pub overflow_add-contents : goal.overflow_add-contents
-overflow_add-contents c =
-    let h = c.requires.1.1 in
-    omega (arith, term_walk-room h (c.loop-levels.invariant c.requires.0 c.requires.1.0 h))
-
-pub enters-requires : goal.enters-requires
-enters-requires c =
-    let h = c.requires.1.1 in
-    let w = c.loop-levels.invariant c.requires.0 c.requires.1.0 h in
-    (term_walk-room h w, term_walk-first h w)
-
-pub overflow_add-levels : goal.overflow_add-levels
-overflow_add-levels c =
-    let h = c.requires.1.1 in
-    omega (arith, term_walk-room h (c.loop-levels.invariant c.requires.0 c.requires.1.0 h))
-
-pub loop-levels-smaller : goal.loop-levels-smaller
-loop-levels-smaller c =
-    let h = c.requires.1.1 in
-    omega (arith, term_walk-room h (c.loop-levels.invariant c.requires.0 c.requires.1.0 h))
-
-pub loop-levels-preserved : goal.loop-levels-preserved
-loop-levels-preserved c =
-    λ k t h.
-    let w = term_walk-next h (c.loop-levels.invariant k t h) (sym c.enters.ensures ∙ c.loop-levels-test.true) in
-    let e : c.args.contents + 4 * c.loop-levels.levels + 4 ≡ c.args.contents + 4 * (c.loop-levels.levels + 1) = omega arith in
-    rw e at w
+    let t = c.requires.1.0 in
+    let l = c.args.buf.now in
+    let room = heads-room (walks h) in (
+      length (term_path t),
+      omega (arith, room (length (term_path t))),
+      λ i b.
+          let r : c.args.contents + 4 * i + 4 ≤ length c.args.buf.now = room i b in
+          let f : val (part c.args.buf.now (c.args.contents + 4 * i + 2) 2) ≡ 38 → c.args.contents + 4 * i + 8 ≤ length c.args.buf.now = term_walk-first h (come-to (walks h) i b) in
+          search rules,
+      λ e. heads-end (walks h) (search rules),
+    )
 
 pub returns : goal.returns
 returns c =
-    λ k t h. omega (arith, term_walk-end h (c.loop-levels.invariant k t h) (sym c.enters.ensures ∙ c.loop-levels-test.false))
+    λ k t h.
+    heads-count (walks h) c.levels.result (λ j b. let e = c.levels.ensures.all_open j b in search rules) (search (rules, c.levels.ensures.stops))

@@ -5,4 +5,4 @@ use Rattle.reducing.proofs.stop.Goals as goal
 
 pub returns : goal.returns
 returns c =
-    stopped-is c.args.buf.now _ _ c.args.at c.args.k c.args.down c.args.used _ refl c.move_down.ensures c.remove.ensures
+    (stopped-is c.args.buf.now _ _ c.args.p.at c.args.k c.args.p.down c.args.used _ refl c.move_down.ensures c.remove.ensures, refl)

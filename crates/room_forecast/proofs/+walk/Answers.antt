@@ -1,41 +1,15 @@
 -- What is left to walk comes to the same longest; both the loop and the calls go on with a shorter row.
 use mathlib.Core.Path.{◌∙◌}
 use native.Mathlib.Omega.{arith}
-use Rattle.room_forecast.proofs.WalkedLaws.{Came, end_fits, left_end, left-fits, left-start, split-order, none-less, turn-left, turn-less, turn-none, turn-order, turn-rows, turn-short}
+use Rattle.room_forecast.proofs.WalkedLaws.{Came, end_fits, left_end, left-fits, turn-left, turn-less, turn-none, turn-rows, turn-short}
 use mathlib.Core.Logic.{inl, inr}
 use Rattle.room_forecast.proofs.+walk.Goals.{then-rest-inside, else-rest-inside}
 use Rattle.room_forecast.proofs.+walk.Goals as goal
-
-pub row_part-left-requires : goal.row_part-left-requires
-row_part-left-requires t c = tt
-
-pub loop-left-init : goal.loop-left-init
-loop-left-init t c = λ b h. left-start h c.row_part-left.ensures
 
 pub split-parts-requires : goal.split-parts-requires
 split-parts-requires t c =
     let left = c.loop-left.invariant c.requires.0.0 c.requires.0.1.0 in
     ((left.block, (left.rows, left-fits left c.requires.0.1.1)), c.loop-left-test.true, c.requires.1)
-
-pub overflow_sub-rest : goal.overflow_sub-rest
-overflow_sub-rest t c =
-    let left = c.loop-left.invariant c.requires.0.0 c.requires.0.1.0 in
-    let parts = c.split-parts.ensures left.block left.rows in
-    (split-order left parts).0
-
-pub overflow_sub-inside : goal.overflow_sub-inside
-overflow_sub-inside t c =
-    let left = c.loop-left.invariant c.requires.0.0 c.requires.0.1.0 in
-    let parts = c.split-parts.ensures left.block left.rows in
-    (split-order left parts).1
-
-pub overflow_sub-shorter : goal.overflow_sub-shorter
-overflow_sub-shorter t c =
-    let left = c.loop-left.invariant c.requires.0.0 c.requires.0.1.0 in
-    let parts = c.split-parts.ensures left.block left.rows in
-    let came : Came (Unit {0}) (Unit {0}) c.split-parts.result c.if-rest-inside.left c.if-rest-inside.shorter =
-    elim c.if-rest-inside.branch [ then-rest-inside w ↦ inl (tt, w.left-is, w.shorter-is) | else-rest-inside w ↦ inr (tt, w.left-is, w.shorter-is) ] in
-    turn-order left parts c.if-inside.true came
 
 pub walk-most-requires : goal.walk-most-requires
 walk-most-requires t c =
@@ -48,14 +22,6 @@ walk-most-requires t c =
     let high = left.high in
     (omega (arith, (turn-less left parts c.if-inside.true came c.loop-left-test.true).0), (turn-rows left parts c.if-inside.true came c.requires.0.1.1, c.requires.1))
 
-pub loop-left-smaller-then-shorter-ge20 : goal.loop-left-smaller-then-shorter-ge20
-loop-left-smaller-then-shorter-ge20 t c =
-    let left = c.loop-left.invariant c.requires.0.0 c.requires.0.1.0 in
-    let parts = c.split-parts.ensures left.block left.rows in
-    let came : Came (Unit {0}) (Unit {0}) c.split-parts.result c.if-rest-inside.left c.if-rest-inside.shorter =
-    elim c.if-rest-inside.branch [ then-rest-inside w ↦ inl (tt, w.left-is, w.shorter-is) | else-rest-inside w ↦ inr (tt, w.left-is, w.shorter-is) ] in
-    (turn-less left parts c.if-inside.true came c.loop-left-test.true).1
-
 pub loop-left-preserved-then-shorter-ge20 : goal.loop-left-preserved-then-shorter-ge20
 loop-left-preserved-then-shorter-ge20 t c =
     λ b h.
@@ -65,14 +31,6 @@ loop-left-preserved-then-shorter-ge20 t c =
     elim c.if-rest-inside.branch [ then-rest-inside w ↦ inl (tt, w.left-is, w.shorter-is) | else-rest-inside w ↦ inr (tt, w.left-is, w.shorter-is) ] in
     turn-left left parts c.if-inside.true came _ c.walk-most.ensures
 
-pub loop-left-smaller-else-shorter-ge20 : goal.loop-left-smaller-else-shorter-ge20
-loop-left-smaller-else-shorter-ge20 t c =
-    let left = c.loop-left.invariant c.requires.0.0 c.requires.0.1.0 in
-    let parts = c.split-parts.ensures left.block left.rows in
-    let came : Came (Unit {0}) (Unit {0}) c.split-parts.result c.if-rest-inside.left c.if-rest-inside.shorter =
-    elim c.if-rest-inside.branch [ then-rest-inside w ↦ inl (tt, w.left-is, w.shorter-is) | else-rest-inside w ↦ inr (tt, w.left-is, w.shorter-is) ] in
-    (turn-less left parts c.if-inside.true came c.loop-left-test.true).1
-
 pub loop-left-preserved-else-shorter-ge20 : goal.loop-left-preserved-else-shorter-ge20
 loop-left-preserved-else-shorter-ge20 t c =
     λ b h.
@@ -81,12 +39,6 @@ loop-left-preserved-else-shorter-ge20 t c =
     let came : Came (Unit {0}) (Unit {0}) c.split-parts.result c.if-rest-inside.left c.if-rest-inside.shorter =
     elim c.if-rest-inside.branch [ then-rest-inside w ↦ inl (tt, w.left-is, w.shorter-is) | else-rest-inside w ↦ inr (tt, w.left-is, w.shorter-is) ] in
     turn-short left parts c.if-inside.true came c.if-shorter-ge20.false
-
-pub loop-left-smaller : goal.loop-left-smaller
-loop-left-smaller t c =
-    let left = c.loop-left.invariant c.requires.0.0 c.requires.0.1.0 in
-    let parts = c.split-parts.ensures left.block left.rows in
-    none-less left parts c.loop-left-test.true
 
 pub loop-left-preserved : goal.loop-left-preserved
 loop-left-preserved t c =
@@ -100,9 +52,6 @@ overflow_add-left t c =
     let left = c.loop-left.invariant c.requires.0.0 c.requires.0.1.0 in
     omega (arith, end_fits left c.requires.0.1.1)
 
-pub larger-requires : goal.larger-requires
-larger-requires t c = tt
-
 pub returns : goal.returns
 returns t c =
-    λ b h. c.larger.ensures ∙ left_end (c.loop-left.invariant b h) c.loop-left-test.false
+    λ b h. c.max.ensures ∙ left_end (c.loop-left.invariant b h) c.loop-left-test.false

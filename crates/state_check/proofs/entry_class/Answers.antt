@@ -1,59 +1,39 @@
-use native.Mathlib.Omega.{arith}
 use mathlib.Core.Path.{ap, ◌∙◌}
-use Prim.Native.Nat.{ℕ}
-use lib.Dec.{eqb}
-use lib.ListN.{get_or}
-use Rattle.counting.specs.StateWords.{held_at}
-use Rattle.state_check.specs.Class.{only_if}
-use Rattle.state_check.proofs.ClassLaws.{loop-same}
+use Rattle.record.specs.declared.kind.Kind.TheVariants.{Assignment, Block}
+use Rattle.record.proofs.KindLaws.{named-number, not-number}
+use Rattle.canonical.specs.Canonical.{held_of}
+use Rattle.state_check.specs.Class.{loop_class}
 use Rattle.state_check.proofs.EntryLaws.{at_room, class-above, class-assign, class-block, class-elsewhere, class-end, class-loop, class-no-loop}
+use Rattle.state_check.proofs.entry_class.Goals.{then-at-via-then-at, then-at-via-else-at+then-entry-at, then-entry-ne2-via-then-entry-ne2, then-entry-ne2-via-else-entry-ne2+then-entry}
 use Rattle.state_check.proofs.entry_class.Goals as goal
 
-pub returns-then-p-end : goal.returns-then-p-end
-returns-then-p-end c =
-    λ r b s. class-end c.args.start c.args.p c.args.end b s _ c.args.last _ c.if-p-end.true
+pub returns-then-at : goal.returns-then-at
+returns-then-at c = elim c.then-at.branch [
+  | then-at-via-then-at w ↦ λ r b s. class-end c.args.program.start c.args.at.p c.args.at.end b s _ c.args.last _ w.if-at.true
+  | then-at-via-else-at+then-entry-at w ↦ λ r b s. class-elsewhere _ c.args.last _ c.args.at.p r w.if-entry-at.true
+]
 
-pub returns-then-word-p : goal.returns-then-word-p
-unfolding held_at
-returns-then-word-p c =
-    λ r b s. class-elsewhere _ c.args.last _ c.args.p r (λ z. omega (arith, z, c.word.ensures.0, c.if-word-p.true))
+pub record_at-requires : goal.record_at-requires
+record_at-requires c =
+    let q = c.requires in
+    at_room c.args.program.start c.args.at.p c.args.at.end q.1.0 q.1.1 c.if-at.false
 
-pub overflow_add-start : goal.overflow_add-start
-overflow_add-start c =
-    let q = c.requires.0 in
-    omega (arith, at_room c.args.start c.args.p c.args.end q.1.0 q.1.1 c.if-p-end.false, c.requires.1)
+pub returns-in-Assignment : goal.returns-in-Assignment
+returns-in-Assignment c =
+    λ r b s. class-assign c.args.program.start c.args.at.p c.args.at.end b s _ c.args.last _ c.if-at.false (named-number c.in-Assignment.ensures)
 
-pub overflow_add-start-2 : goal.overflow_add-start-2
-overflow_add-start-2 c =
-    let q = c.requires.0 in
-    omega (arith, at_room c.args.start c.args.p c.args.end q.1.0 q.1.1 c.if-p-end.false, c.requires.1)
+pub returns-in-Block : goal.returns-in-Block
+returns-in-Block c =
+    λ r b s. class-block c.args.program.start c.args.at.p c.args.at.end b s _ c.args.last _ c.if-at.false (named-number c.in-Block.ensures) c.if-entry-at.false c.then_some.result c.then_some.ensures
 
-pub get_u16-kind-requires : goal.get_u16-kind-requires
-get_u16-kind-requires c =
-    let q = c.requires.0 in
-    omega (arith, at_room c.args.start c.args.p c.args.end q.1.0 q.1.1 c.if-p-end.false, c.requires.1)
+pub returns-then-entry-ne2 : goal.returns-then-entry-ne2
+returns-then-entry-ne2 c = elim c.then-entry-ne2.branch [
+  | then-entry-ne2-via-then-entry-ne2 w ↦ λ r b s. class-no-loop c.args.program.start c.args.at.p c.args.at.end b s _ c.args.last _ c.if-at.false (not-number Block tt c.record_at.ensures c.in_default.not-Block) (not-number Assignment tt c.record_at.ensures c.in_default.not-Assignment) w.if-entry-ne2.true
+  | then-entry-ne2-via-else-entry-ne2+then-entry w ↦ λ r b s. class-above c.args.program.start c.args.at.p c.args.at.end b s c.args.waits c.args.last (held_of c.args.entry) c.if-at.false (not-number Block tt c.record_at.ensures c.in_default.not-Block) (not-number Assignment tt c.record_at.ensures c.in_default.not-Assignment)
+      w.if-entry-ne2.false c.if-entry-at.false w.if-entry.true
+]
 
-pub returns-then-kind-eq-ASSIGNMENT : goal.returns-then-kind-eq-ASSIGNMENT
-returns-then-kind-eq-ASSIGNMENT c =
-    λ r b s. class-assign c.args.start c.args.p c.args.end b s _ c.args.last _ c.if-p-end.false c.get_u16-kind.result c.get_u16-kind.ensures.0 c.if-kind-eq-ASSIGNMENT.true
-
-pub returns-then-kind-eq-BLOCK : goal.returns-then-kind-eq-BLOCK
-unfolding held_at
-returns-then-kind-eq-BLOCK c =
-    λ r b s. class-block c.args.start c.args.p c.args.end b s _ c.args.last _ c.if-p-end.false c.get_u16-kind.result c.get_u16-kind.ensures.0 c.if-kind-eq-BLOCK.true (omega (arith, c.word.ensures.0, c.if-word-p.false)) c.only_if.result (c.only_if.ensures ∙ ap (λ (z : ℕ). only_if (eqb z 1) 2) c.word-what.ensures.0)
-
-pub returns-then-what-ne2 : goal.returns-then-what-ne2
-unfolding held_at
-returns-then-what-ne2 c =
-    λ r b s. class-no-loop c.args.start c.args.p c.args.end b s _ c.args.last _ c.if-p-end.false c.get_u16-kind.result c.get_u16-kind.ensures.0 c.if-kind-eq-BLOCK.false c.if-kind-eq-ASSIGNMENT.false (λ z. omega (arith, z, c.word-what.ensures.0, c.if-what-ne2.true))
-
-pub returns-then-word-reached : goal.returns-then-word-reached
-unfolding held_at
-returns-then-word-reached c =
-    λ r b s. class-above c.args.start c.args.p c.args.end b s (get_or c.args.words.now 1 0) c.args.last (held_at c.args.words.now c.args.e) c.if-p-end.false c.get_u16-kind.result c.get_u16-kind.ensures.0 c.if-kind-eq-BLOCK.false c.if-kind-eq-ASSIGNMENT.false (omega (arith, c.word-what.ensures.0, c.if-what-ne2.false)) (omega (arith, c.word.ensures.0, c.if-word-p.false)) (omega (arith, c.word-reached.ensures.0, c.word-2.ensures.0, c.if-word-reached.true))
-
-pub returns : goal.returns
-unfolding held_at
-returns c =
-    λ r b s. class-loop c.args.start c.args.p c.args.end b s (get_or c.args.words.now 1 0) c.args.last (held_at c.args.words.now c.args.e) c.if-p-end.false c.get_u16-kind.result c.get_u16-kind.ensures.0 c.if-kind-eq-BLOCK.false c.if-kind-eq-ASSIGNMENT.false (omega (arith, c.word-what.ensures.0, c.if-what-ne2.false)) (omega (arith, c.word.ensures.0, c.if-word-p.false)) (omega (arith, c.word-reached.ensures.0, c.word-2.ensures.0, c.if-word-reached.false)) c.loop_class.result
-    (c.loop_class.ensures ∙ loop-same c.args.last _ _ _ _ _ _ _ _ _ c.word-4.ensures.0 c.word-reached.ensures.0 c.word-5.ensures.0 c.shut_class-shut.ensures c.word-3.ensures.0)
+pub returns-else-entry : goal.returns-else-entry
+returns-else-entry c =
+    λ r b s. class-loop c.args.program.start c.args.at.p c.args.at.end b s c.args.waits c.args.last (held_of c.args.entry) c.if-at.false (not-number Block tt c.record_at.ensures c.in_default.not-Block) (not-number Assignment tt c.record_at.ensures c.in_default.not-Assignment)
+    c.if-entry-ne2.false c.if-entry-at.false c.if-entry.false c.loop_class.result (c.loop_class.ensures ∙ ap (loop_class _ _ _) c.shut_class.ensures)

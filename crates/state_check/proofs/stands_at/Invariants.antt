@@ -8,7 +8,7 @@ use Rattle.state_check.proofs.stands_at.Given as goal
 
 abbrev pub invariant-loop-q : goal.invariant-loop-q
 invariant-loop-q l =
-    (b : Block) → BlockAt l.buf (l.start + l.first) b → l.first + block_size b ≡ l.end → Walked l.buf l.start b l.first l.end l.p l.q
+    (b : Block) → BlockAt l.program.bytes.now (l.program.start + l.at.first) b → l.at.first + block_size b ≡ l.at.end → Walked l.program.bytes.now l.program.start b l.at.first l.at.end l.at.p l.q
 
 abbrev pub decreases-loop-q : goal.decreases-loop-q
-decreases-loop-q l = l.end - l.q
+decreases-loop-q l = l.at.end - l.q

@@ -6,11 +6,10 @@ use Rattle.step_forecast.proofs.LeftLaws.{Left}
 use Rattle.step_forecast.proofs.+walk.Given as goal
 
 abbrev pub decreases-walk : goal.decreases-walk
-decreases-walk l = l.to - l.from
+decreases-walk l = l.whole.to - l.whole.from
 
-abbrev pub invariant-loop-at : goal.invariant-loop-at
-invariant-loop-at l =
-    (b : Block) → RowOf l.src (length l.store) l.from l.to b → Left l.src l.store l.from l.to b l.a l.m l.at l.end l.found l.times
+abbrev pub invariant-loop-left : goal.invariant-loop-left
+invariant-loop-left l = (b : Block) → RowOf l.src (length l.store) l.fn.whole.from l.fn.whole.to b → Left l.src l.store l.fn.whole b l.a l.left l.found
 
-abbrev pub decreases-loop-at : goal.decreases-loop-at
-decreases-loop-at l = l.end - l.at
+abbrev pub decreases-loop-left : goal.decreases-loop-left
+decreases-loop-left l = l.left.to - l.left.from

@@ -1,26 +1,19 @@
 use native.Mathlib.Omega.{arith}
 use mathlib.Core.Path.{◌∙◌}
-use Rattle.command.proofs.LookLaws.{loop-read}
+use Rattle.command.proofs.LookLaws.{bound-leaf, bound_leaf-value, leaf-kind, leaf-number, loop-read}
 use Rattle.step_forecast.proofs.turns_of.Goals as goal
 
-pub overflow_add-at : goal.overflow_add-at
-overflow_add-at c = omega (arith, (loop-read c.requires.1.1.1.1.0).room)
+pub read-bound-requires : goal.read-bound-requires
+read-bound-requires c = omega (arith, (loop-read c.requires.1.1.1.1.0).room)
 
-pub get_u16-kind-requires : goal.get_u16-kind-requires
-get_u16-kind-requires c = omega (arith, (loop-read c.requires.1.1.1.1.0).room)
-
-pub overflow_add-at-2 : goal.overflow_add-at-2
-overflow_add-at-2 c = omega (arith, (loop-read c.requires.1.1.1.1.0).room)
-
-pub get_u32-number-requires : goal.get_u32-number-requires
-get_u32-number-requires c = omega (arith, (loop-read c.requires.1.1.1.1.0).room)
-
-pub bound_value-requires : goal.bound_value-requires
-bound_value-requires c =
+pub value-requires : goal.value-requires
+value-requires c =
     let p = c.requires in
     let v = loop-read p.1.1.1.1.0 in
-    (p.1.0, (c.get_u16-kind.ensures.0 ∙ v.kind, (c.get_u32-number.ensures ∙ v.number, p.1.1.1.1.1)))
+    let leaf = c.read-bound.ensures in
+    bound-leaf p.1.0 (leaf-kind c.args.src.now c.args.at leaf.kind v.kind) (leaf-number c.args.src.now c.args.at leaf.number v.number) p.1.1.1.1.1
 
 pub returns : goal.returns
 returns c =
-    (λ x m b r h. let v = loop-read h in c.widen.ensures.0 ∙ c.bound_value.ensures m (c.get_u16-kind.ensures.0 ∙ v.kind) (c.get_u32-number.ensures ∙ v.number), c.widen.ensures.1)
+    let leaf = c.read-bound.ensures in
+    (λ x m b r h. let v = loop-read h in c.from.ensures ∙ c.value.ensures ∙ bound_leaf-value c.args.store.now m (leaf-kind c.args.src.now c.args.at leaf.kind v.kind) (leaf-number c.args.src.now c.args.at leaf.number v.number), omega arith)

@@ -9,9 +9,9 @@ use Rattle.term_checker.proofs.+check_term_contents.Given as goal
 abbrev pub decreases-check_term_contents : goal.decreases-check_term_contents
 decreases-check_term_contents l = length l.s.now
 
-abbrev pub invariant-loop-v : goal.invariant-loop-v
-invariant-loop-v l =
-    (term_verdict l.k l.largest (term_in l.k l.s) ≡ worse l.found (term_verdict l.k l.largest (term_in l.k l.left))) × (length l.left ≤ length l.s)
+abbrev pub invariant-loop-verdict : goal.invariant-loop-verdict
+invariant-loop-verdict l =
+    (term_verdict l.limits.k l.limits.largest (term_in l.limits.k l.s) ≡ worse l.found (term_verdict l.limits.k l.limits.largest (term_in l.limits.k l.left))) × (length l.left ≤ length l.s)
 
-abbrev pub decreases-loop-v : goal.decreases-loop-v
-decreases-loop-v l = length l.left
+abbrev pub decreases-loop-verdict : goal.decreases-loop-verdict
+decreases-loop-verdict l = length l.left

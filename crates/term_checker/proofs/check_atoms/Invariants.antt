@@ -8,7 +8,7 @@ use Rattle.term_checker.proofs.check_atoms.Given as goal
 
 abbrev pub invariant-loop-place : goal.invariant-loop-place
 invariant-loop-place l =
-    (n : ℕ) × (l.place + 8 * n ≡ l.end) × (verdict (atoms_rating l.k l.largest) (decode_atoms l.k (part l.s l.at (l.end - l.at))) ≡ worse l.found (verdict (atoms_rating l.k l.largest) (decode_atoms n (part l.s l.place (8 * n)))))
+    (n : ℕ) × (l.place + 8 * n ≡ l.end) × (verdict (atoms_rating l.limits.k l.limits.largest) (decode_atoms l.limits.k (part l.s l.at (l.end - l.at))) ≡ worse l.found (verdict (atoms_rating l.limits.k l.limits.largest) (decode_atoms n (part l.s l.place (8 * n)))))
 
 abbrev pub decreases-loop-place : goal.decreases-loop-place
 decreases-loop-place l = l.end - l.place

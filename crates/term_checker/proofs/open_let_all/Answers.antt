@@ -3,4 +3,4 @@ use Rattle.term_checker.proofs.open_let_all.Goals as goal
 
 pub returns : goal.returns
 returns c =
-    let_all-opens c.args.k c.args.largest c.args.s.now c.requires c.after.ensures
+    let_all-opens _ _ _ c.requires c.after.ensures

@@ -1,6 +1,7 @@
 -- What is left to write, stored now, gives the whole; both the loop and the calls go on with a shorter row.
 use native.Mathlib.Omega.{arith}
-use mathlib.Core.Path.{refl, sym, ◌∙◌}
+use mathlib.Core.Path.{refl, ◌∙◌}
+use Rattle.record.proofs.KindLaws.{stands-not, stands-number}
 use Rattle.translator.proofs.TaskLaws.{Came, end-room, head-room, left_end, left_one, left-start, one-room, turn-left, turn-less, turn-task, tuple-alone, tuple-room}
 use mathlib.Core.Logic.{inl, inr}
 use Rattle.translator.proofs.+write_row.Goals.{then-rest-inner, else-rest-inner}
@@ -14,8 +15,8 @@ overflow_add-left t c =
     let s = c.loop-left.invariant c.requires.0 in
     omega (arith, (head-room s.task c.loop-left-test.true).0)
 
-pub get_u16-requires : goal.get_u16-requires
-get_u16-requires t c =
+pub stands_at-requires : goal.stands_at-requires
+stands_at-requires t c =
     let s = c.loop-left.invariant c.requires.0 in
     omega (arith, (head-room s.task c.loop-left-test.true).0)
 
@@ -27,28 +28,28 @@ overflow_sub-left t c =
 pub write_let_one-requires : goal.write_let_one-requires
 write_let_one-requires t c =
     let s = c.loop-left.invariant c.requires.0 in
-    one-room s c.loop-left-test.true (sym c.get_u16.ensures.0 ∙ c.if-get_u16-eq-ASSIGNMENT.true)
+    one-room s c.loop-left-test.true (stands-number c.stands_at.ensures c.if-stands_at.true)
 
-pub overflow_add-left-then-get_u16-eq-ASSIGNMENT : goal.overflow_add-left-then-get_u16-eq-ASSIGNMENT
-overflow_add-left-then-get_u16-eq-ASSIGNMENT t c =
+pub overflow_add-left-then-stands_at : goal.overflow_add-left-then-stands_at
+overflow_add-left-then-stands_at t c =
     let s = c.loop-left.invariant c.requires.0 in
-    omega (arith, (one-room s c.loop-left-test.true (sym c.get_u16.ensures.0 ∙ c.if-get_u16-eq-ASSIGNMENT.true)).0)
+    omega (arith, (one-room s c.loop-left-test.true (stands-number c.stands_at.ensures c.if-stands_at.true)).0)
 
-pub loop-left-smaller-then-get_u16-eq-ASSIGNMENT : goal.loop-left-smaller-then-get_u16-eq-ASSIGNMENT
-loop-left-smaller-then-get_u16-eq-ASSIGNMENT t c =
+pub loop-left-smaller-then-stands_at : goal.loop-left-smaller-then-stands_at
+loop-left-smaller-then-stands_at t c =
     let test = c.loop-left-test.true in
     omega arith
 
-pub loop-left-preserved-then-get_u16-eq-ASSIGNMENT : goal.loop-left-preserved-then-get_u16-eq-ASSIGNMENT
-loop-left-preserved-then-get_u16-eq-ASSIGNMENT t c =
+pub loop-left-preserved-then-stands_at : goal.loop-left-preserved-then-stands_at
+loop-left-preserved-then-stands_at t c =
     λ h.
     let w = c.write_let_one in
-    left_one (c.loop-left.invariant h) c.loop-left-test.true (sym c.get_u16.ensures.0 ∙ c.if-get_u16-eq-ASSIGNMENT.true) _ _ _ w.ensures.0 c.write_let_one.auto.out refl w.ensures.1
+    left_one (c.loop-left.invariant h) c.loop-left-test.true (stands-number c.stands_at.ensures c.if-stands_at.true) _ _ _ w.ensures.0 c.write_let_one.auto.out refl w.ensures.1
 
 pub rows_of-parts-requires : goal.rows_of-parts-requires
 rows_of-parts-requires t c =
     let s = c.loop-left.invariant c.requires.0 in
-    (s.task, c.loop-left-test.true, λ e. c.if-get_u16-eq-ASSIGNMENT.false (c.get_u16.ensures.0 ∙ e))
+    (s.task, c.loop-left-test.true, stands-not c.stands_at.ensures c.if-stands_at.false)
 
 pub write_let_all-requires : goal.write_let_all-requires
 write_let_all-requires t c =

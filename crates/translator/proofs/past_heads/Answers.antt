@@ -1,39 +1,26 @@
 -- Both places by the kind read; the row has room for the heads.
 use native.Mathlib.Omega.{arith}
-use mathlib.Core.Path.{sym, ◌∙◌}
+use mathlib.Core.Path.{refl}
+use Rattle.record.proofs.KindLaws.{stands-not, stands-number}
 use Rattle.translator.proofs.TaskLaws.{head-room, loop-room, past-loop, past-nest}
 use Rattle.translator.proofs.past_heads.Goals as goal
 
-pub overflow_add-whole : goal.overflow_add-whole
-overflow_add-whole c = omega (arith, (head-room c.requires.0 c.requires.1).0)
+pub stands_at-requires : goal.stands_at-requires
+stands_at-requires c = omega (arith, (head-room c.requires.0 c.requires.1).0)
 
-pub get_u16-requires : goal.get_u16-requires
-get_u16-requires c = omega (arith, (head-room c.requires.0 c.requires.1).0)
+pub overflow_add-result-then-stands_at : goal.overflow_add-result-then-stands_at
+overflow_add-result-then-stands_at c = omega (arith, (loop-room c.requires.0 c.requires.1 (stands-number c.stands_at.ensures c.if-stands_at.true)).1)
 
-pub overflow_add-result : goal.overflow_add-result
-overflow_add-result c =
-    omega (arith, (loop-room c.requires.0 c.requires.1 (sym c.get_u16.ensures.0 ∙ c.if-get_u16-eq-LOOP.true)).0)
+pub overflow_add-result-then-stands_at-2 : goal.overflow_add-result-then-stands_at-2
+overflow_add-result-then-stands_at-2 c = omega (arith, (loop-room c.requires.0 c.requires.1 (stands-number c.stands_at.ensures c.if-stands_at.true)).1, c.tuple_size.ensures)
 
-pub overflow_add-result-then-get_u16-eq-LOOP : goal.overflow_add-result-then-get_u16-eq-LOOP
-overflow_add-result-then-get_u16-eq-LOOP c =
-    omega (arith, (loop-room c.requires.0 c.requires.1 (sym c.get_u16.ensures.0 ∙ c.if-get_u16-eq-LOOP.true)).1)
+pub returns-then-stands_at : goal.returns-then-stands_at
+returns-then-stands_at c =
+    past-loop c.args.k c.args.src.now c.args.whole _ _ _ refl (stands-number c.stands_at.ensures c.if-stands_at.true) refl (omega (arith, c.tuple_size.ensures))
 
-pub overflow_add-result-then-get_u16-eq-LOOP-2 : goal.overflow_add-result-then-get_u16-eq-LOOP-2
-overflow_add-result-then-get_u16-eq-LOOP-2 c =
-    omega (arith, (loop-room c.requires.0 c.requires.1 (sym c.get_u16.ensures.0 ∙ c.if-get_u16-eq-LOOP.true)).1, c.tuple_size.ensures)
+pub overflow_add-result-else-stands_at-2 : goal.overflow_add-result-else-stands_at-2
+overflow_add-result-else-stands_at-2 c = omega (arith, (head-room c.requires.0 c.requires.1).1)
 
-pub returns-then-get_u16-eq-LOOP : goal.returns-then-get_u16-eq-LOOP
-returns-then-get_u16-eq-LOOP c =
-    past-loop c.args.k c.args.src.now c.args.whole _ _ _ c.get_u16.ensures.0 c.if-get_u16-eq-LOOP.true (omega arith) (omega (arith, c.tuple_size.ensures))
-
-pub overflow_add-result-2 : goal.overflow_add-result-2
-overflow_add-result-2 c =
-    omega (arith, (head-room c.requires.0 c.requires.1).0)
-
-pub overflow_add-result-3 : goal.overflow_add-result-3
-overflow_add-result-3 c =
-    omega (arith, (head-room c.requires.0 c.requires.1).1)
-
-pub returns : goal.returns
-returns c =
-    past-nest c.args.k c.args.src.now c.args.whole _ _ _ c.get_u16.ensures.0 c.if-get_u16-eq-LOOP.false (omega arith) (omega arith)
+pub returns-else-stands_at : goal.returns-else-stands_at
+returns-else-stands_at c =
+    past-nest c.args.k c.args.src.now c.args.whole _ _ _ refl (stands-not c.stands_at.ensures c.if-stands_at.false) refl refl

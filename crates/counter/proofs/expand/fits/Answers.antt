@@ -1,10 +1,8 @@
 use Rattle.counter.proofs.ExpandLaws.{no_room, room-behind}
 use Rattle.counter.proofs.expand.fits.Goals as goal
 
--- src/expand.rt:34:9
 pub returns-then-room-start : goal.returns-then-room-start
 returns-then-room-start c = no_room c.args.room c.args.start c.args.size c.if-room-start.true
 
--- src/expand.rt:30:1
 pub returns : goal.returns
 returns c = room-behind c.args.room c.args.start c.args.size c.if-room-start.false

@@ -1,4 +1,3 @@
-use borrow.Author.Rules.{rules}
 use mathlib.Core.Path.{ap, ◌∙◌}
 use Prim.Native.Nat.{◌+◌, ℕ}
 use native.Mathlib.Omega.{arith}
@@ -6,37 +5,26 @@ use Rattle.counting.specs.Counting.{expand}
 use Rattle.counter.proofs.ExpandLaws.{given, record-room, record-stores, size_room}
 use Rattle.counter.proofs.expand.write_record.Goals as goal
 
--- src/expand.rt:52:5
 pub put_header-requires : goal.put_header-requires
 put_header-requires c =
     omega (arith, record-room c.requires.0.3 c.args.total c.requires.0.4, c.contents_at-contents.ensures, c.requires.1)
 
--- src/expand.rt:53:36
 pub overflow_sub-total : goal.overflow_sub-total
 overflow_sub-total c =
     omega (arith, record-room c.requires.0.3 c.args.total c.requires.0.4, c.contents_at-contents.ensures)
 
--- src/expand.rt:53:5
 pub put_head-requires : goal.put_head-requires
 put_head-requires c =
     omega (arith, record-room c.requires.0.3 c.args.total c.requires.0.4, c.contents_at-contents.ensures, c.requires.1, c.put_header.auto.buf)
 
--- src/expand.rt:54:43
-pub overflow_add-contents : goal.overflow_add-contents
-overflow_add-contents c =
+pub overflow_add-start : goal.overflow_add-start
+overflow_add-start c =
     omega (arith, record-room c.requires.0.3 c.args.total c.requires.0.4, c.contents_at-contents.ensures, c.requires.1, c.requires.2)
 
--- src/expand.rt:54:62
-pub overflow_add-contents-2 : goal.overflow_add-contents-2
-overflow_add-contents-2 c =
-    omega (arith, record-room c.requires.0.3 c.args.total c.requires.0.4, c.contents_at-contents.ensures, c.requires.1, c.requires.2)
-
--- src/expand.rt:54:5
 pub write_expansion-requires : goal.write_expansion-requires
 write_expansion-requires c =
-    ((c.requires.0.1, c.requires.0.2, given c.requires.0.3 (c.contents_at-contents.result + 4) (ap (λ (m : ℕ). m + 4) c.contents_at-contents.ensures), omega (arith, size_room c.requires.0.3 c.args.total c.requires.0.4, c.contents_at-contents.ensures, c.requires.1, c.put_header.auto.buf, c.put_head.auto.buf)), c.requires.0.3.low, search rules, omega (arith, c.requires.2, c.put_header.auto.buf, c.put_head.auto.buf))
+    ((c.requires.0.1, c.requires.0.2, given c.requires.0.3 (c.contents_at-contents.result + 4) (ap (λ (m : ℕ). m + 4) c.contents_at-contents.ensures), omega (arith, size_room c.requires.0.3 c.args.total c.requires.0.4, c.contents_at-contents.ensures, c.requires.1, c.put_header.auto.buf, c.put_head.auto.buf)), c.requires.0.3.low, omega (arith, c.requires.2, c.put_header.auto.buf, c.put_head.auto.buf))
 
--- src/expand.rt:40:1
 pub returns : goal.returns
 returns c =
     λ store P s a e.

@@ -1,8 +1,7 @@
 -- An array in which every variable stays is the substitution of no store.
-use mathlib.Core.List.{[]}
-use Rattle.numerals.proofs.ValuesLaws.{blank, built-none, length-blank}
+use Rattle.numerals.proofs.ValuesLaws.{blank, values-blank}
 use Rattle.numerals.proofs.values.from_tuple.Goals as goal
 
-pub put_tuple-requires : goal.put_tuple-requires
+pub put_tuple-requires-clause-blank : goal.put_tuple-requires-clause-blank
 unfolding blank
-put_tuple-requires c = record { blank = (length-blank, built-none []); numerals = c.requires }
+put_tuple-requires-clause-blank c = values-blank

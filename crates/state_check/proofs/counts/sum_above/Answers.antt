@@ -1,9 +1,10 @@
 -- There is a sum where one waits.
+use Rattle.std.proofs.Common.{ap, nat_eq, not, ℕ, ◌∙◌}
 use Rattle.state_check.proofs.CountsLaws.{sum-none, sum-waits}
 use Rattle.state_check.proofs.counts.sum_above.Goals as goal
 
-pub returns-then-words-eq0 : goal.returns-then-words-eq0
-returns-then-words-eq0 c = sum-none c.args.largest _ _ c.if-words-eq0.true
+pub returns-then-words-ne0 : goal.returns-then-words-ne0
+returns-then-words-ne0 c = sum-waits c.args.largest _ _ c.if-words-ne0.true
 
-pub returns : goal.returns
-returns c = sum-waits c.args.largest _ _ c.if-words-eq0.false
+pub returns-else-words-ne0 : goal.returns-else-words-ne0
+returns-else-words-ne0 c = ap (λ (w : ℕ). not (nat_eq w 0)) c.if-words-ne0.false ∙ sum-none c.args.largest _ _ c.if-words-ne0.false

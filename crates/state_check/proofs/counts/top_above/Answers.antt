@@ -1,9 +1,11 @@
 -- An entry that is not a loop's has no top count.
+use Rattle.std.proofs.Common.{◌∙◌}
+use borrow.Author.Tests.{ne_eqb}
 use Rattle.state_check.proofs.CountsLaws.{top-loop, top-none}
 use Rattle.state_check.proofs.counts.top_above.Goals as goal
 
-pub returns-then-words-e-ne2 : goal.returns-then-words-e-ne2
-returns-then-words-e-ne2 c = top-none c.args.largest _ _ c.if-words-e-ne2.true
+pub returns-then-entry-eq2 : goal.returns-then-entry-eq2
+returns-then-entry-eq2 c = top-loop c.args.largest _ _ c.if-entry-eq2.true
 
-pub returns : goal.returns
-returns c = top-loop c.args.largest _ _ c.if-words-e-ne2.false
+pub returns-else-entry-eq2 : goal.returns-else-entry-eq2
+returns-else-entry-eq2 c = ne_eqb _ 2 c.if-entry-eq2.false ∙ top-none c.args.largest _ _ c.if-entry-eq2.false

@@ -1,28 +1,25 @@
 -- Row 1 by the output, the checker's refusal, or the work on what it accepted.
-use mathlib.Core.Path.{sym, ◌∙◌}
+use mathlib.Core.Path.{refl, sym, ◌∙◌}
 use native.Mathlib.Omega.{arith}
 use Rattle.buffer.proofs.LittleEndianLaws.{bytes_of}
 use Rattle.record.proofs.CheckedRowLaws.{term-accepted}
-use Rattle.term.proofs.AnsweredLaws.{answers, read_back-checked, read_back-one}
+use Rattle.term.proofs.AnsweredLaws.{read_back-checked, read_back-one}
 use Rattle.record.proofs.HeldLaws.{long-is, short-buffer}
 use Rattle.record.proofs.HoldingLaws.{term-as-read, term-whole}
+use Rattle.checker.proofs.AnswerLaws.{raised, refusal-some}
 use Rattle.term.proofs.read_back.read_back.Goals as goal
 
 pub returns-then-too_long : goal.returns-then-too_long
 returns-then-too_long c =
-    answers c.refused.ensures
-    (read_back-one c.args.src.now c.args.used c.args.out.now (sym (long-is _) ∙ sym c.too_long.ensures ∙ c.if-too_long.true))
+    read_back-one c.args.src.now c.args.used c.args.out.now (sym (long-is _) ∙ sym c.too_long.ensures ∙ c.if-too_long.true)
 
-pub returns-then-checked-ne0 : goal.returns-then-checked-ne0
-returns-then-checked-ne0 c =
-    answers c.refused-then-checked-ne0.ensures
-    (read_back-checked c.args.src.now c.args.used c.check_term-checked.result.number c.check_term-checked.result.k c.args.out.now (sym c.check_term-checked.ensures) c.if-checked-ne0.true (sym (long-is _) ∙ sym c.too_long.ensures ∙ c.if-too_long.false))
-
-pub read_header-h-requires : goal.read_header-h-requires
-read_header-h-requires c =
-    term-whole (term-accepted c.args.src.now c.args.used c.check_term-checked.result.number c.check_term-checked.result.k (sym c.check_term-checked.ensures) c.if-checked-ne0.false (bytes_of c.args.src.now (λ i _. omega (arith, c.shared_slice_known-1.given i)))).1.3
+pub returns-in_err-h : goal.returns-in_err-h
+returns-in_err-h c =
+    let r = c.in_err-h.field-0.0 in
+    rw (raised c.from_residual.ensures) (read_back-checked c.args.src.now c.args.used _ _ c.args.out.now (sym c.in_err-h.ensures.checks) (refusal-some r) (sym (long-is _) ∙ sym c.too_long.ensures ∙ c.if-too_long.false))
 
 pub read_back_checked-requires : goal.read_back_checked-requires
 read_back_checked-requires c =
-    let a = term-accepted c.args.src.now c.args.used c.check_term-checked.result.number c.check_term-checked.result.k (sym c.check_term-checked.ensures) c.if-checked-ne0.false (bytes_of c.args.src.now (λ i _. omega (arith, c.shared_slice_known-1.given i))) in
-    ((a.1.1, term-as-read a.1.3 c.read_header-h.result c.read_header-h.ensures), a.0, short-buffer c.args.out.now (sym (long-is _) ∙ sym c.too_long.ensures ∙ c.if-too_long.false))
+    let h = c.in_ok-h in
+    let a = term-accepted c.args.src.now c.args.used _ _ (sym h.ensures.checks) refl (bytes_of c.args.src.now (λ i _. omega (arith, c.shared_slice_known-1.given i))) in
+    ((a.1.1, term-as-read a.1.3 h.h h.ensures.header), a.0, short-buffer c.args.out.now (sym (long-is _) ∙ sym c.too_long.ensures ∙ c.if-too_long.false))

@@ -1,11 +1,10 @@
 -- Row 6, row 16, or the store substituted.
 use native.Mathlib.Omega.{arith}
-use Rattle.term.proofs.AnsweredLaws.{substitute-answers, substitute-few, substitute-six, substitute-sixteen, substitute-zero, values-small}
+use Rattle.term.proofs.AnsweredLaws.{substitute-few, substitute-six, substitute-sixteen, substitute-zero, values-small}
 use Rattle.term.proofs.substitute.substitute_checked.Goals as goal
 
 pub returns-then-store-h : goal.returns-then-store-h
 returns-then-store-h c =
-    substitute-answers c.refuse.ensures
     (substitute-six c.requires.0.1 c.requires.1 c.args.store.now c.if-store-h.true)
 
 pub returns-then-some_above : goal.returns-then-some_above
@@ -15,7 +14,7 @@ returns-then-some_above c =
     let store = c.args.store.now in
     let largest = c.largest in
     let above = c.some_above in
-    substitute-answers c.refuse-then-some_above.ensures (substitute-sixteen held low store c.if-store-h.false largest.result largest.ensures above.result above.ensures c.if-some_above.true)
+    (substitute-sixteen held low store c.if-store-h.false largest.result largest.ensures above.result above.ensures c.if-some_above.true)
 
 pub overflow_cast-result-2 : goal.overflow_cast-result-2
 overflow_cast-result-2 c =
