@@ -2,7 +2,7 @@
 ghost use Rattle.count_step.specs.Makes.{IsFlat, MakesAs, StandsOn};
 ghost use Rattle.count_step.specs.Standing.{IsWay, MakesStep, SomeGoing};
 
-use crate::standing::{Standing, Way, open_blocks};
+use crate::standing::{Standing, Way, open_at};
 use crate::ways::{step_assign, step_close, step_enter, step_shut, step_sum};
 use state_words::WORDS;
 use state_words::program::Program;
@@ -46,7 +46,7 @@ pub fn make(
             n
         }
         Way::Here(first) => {
-            let (many, here) = open_blocks(program, words, n, first);
+            let (many, here) = open_at(program, words, n, first);
             step_here(program, words, many, store, here)
         }
     }

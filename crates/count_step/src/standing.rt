@@ -74,17 +74,12 @@ pub fn way_of(program: Program, words: &[u32; WORDS], n: usize) -> Way
 
 // The blocks that stand there one in the other are opened, which is no step; where no block stands nothing is done. Answers how
 // many are open then, and what stands there.
-pub fn open_blocks(
-    program: Program,
-    words: &mut [u32; WORDS],
-    n: usize,
-    first: Standing,
-) -> (usize, Standing)
-    requires { (P : Block) × (es : List Entry) × (i : ℕ) × (r : Block) × (count : ℕ) × Inner program.start program.used n P es i r (here r) program.bytes.now words.old count × (first ≡ kind_of r) }
-    ensures { (P : Block) (es : List Entry) (i : ℕ) (r : Block) (count : ℕ) → Inner program.entry.start program.entry.used n P es i r (here r) program.entry.bytes.now words.old count → first ≡ kind_of r → ((o : Opened program.entry.start program.entry.used result.0 P es r program.entry.bytes.now words.new count) × (result.1 ≡ kind_of o.left) × (result.1 ≡ standing.Block → ⊥)) }
+pub fn open_blocks(program: Program, words: &mut [u32; WORDS], n: usize) -> (usize, Standing)
+    requires { HereIn program.start program.used n program.bytes.now words.old }
+    ensures { (P : Block) (es : List Entry) (i : ℕ) (r : Block) (count : ℕ) → Inner program.entry.start program.entry.used n P es i r (here r) program.entry.bytes.now words.old count → ((o : Opened program.entry.start program.entry.used result.0 P es r program.entry.bytes.now words.new count) × (result.1 ≡ kind_of o.left) × (result.1 ≡ standing.Block → ⊥)) }
 {
     let mut many = n;
-    let mut inside = first;
+    let mut inside = innermost(program, words, n);
     while let Standing::Block = inside {
         let i = place(words, many) as u32;
         push(words, many, EntryWords::block(i, i + 4));
@@ -92,4 +87,20 @@ pub fn open_blocks(
         inside = innermost(program, words, many);
     }
     (many, inside)
+}
+
+// The same by what stands there, which the caller has read: where it is no block nothing is done.
+pub fn open_at(
+    program: Program,
+    words: &mut [u32; WORDS],
+    n: usize,
+    first: Standing,
+) -> (usize, Standing)
+    requires { HereIn program.start program.used n program.bytes.now words.old }
+    ensures { (P : Block) (es : List Entry) (i : ℕ) (r : Block) (count : ℕ) → Inner program.entry.start program.entry.used n P es i r (here r) program.entry.bytes.now words.old count → first ≡ kind_of r → ((o : Opened program.entry.start program.entry.used result.0 P es r program.entry.bytes.now words.new count) × (result.1 ≡ kind_of o.left) × (result.1 ≡ standing.Block → ⊥)) }
+{
+    match first {
+        Standing::Block => open_blocks(program, words, n),
+        _ => (n, first),
+    }
 }

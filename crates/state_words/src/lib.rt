@@ -93,12 +93,22 @@ impl EntryWords {
     pub fn in_play(at: u32, turns: u32) -> EntryWords
         ensures { result ≡ entry_in_play at turns }
     {
+        if turns == 0 {
+            return EntryWords {
+                what: IN_PLAY,
+                at,
+                top: 0,
+                reached: 0,
+                running: 1,
+                progress: 0,
+            };
+        }
         EntryWords {
             what: IN_PLAY,
             at,
             top: turns,
-            reached: turns.saturating_sub(1),
-            running: u32::from(turns == 0),
+            reached: turns - 1,
+            running: 0,
             progress: 0,
         }
     }

@@ -20,19 +20,19 @@ returns-in-Waits c = λ P s h.
     let u = way-sum h c.requires.1 c.in-Waits.is in
     makes-sum c.args.program.start c.args.program.used c.args.n c.args.program.bytes.now c.args.words.now c.args.store.now u.0 u.1 _ _ c.args.n c.step_sum.ensures P s h
 
-pub open_blocks-many-requires : goal.open_blocks-many-requires
-open_blocks-many-requires c =
+pub open_at-many-requires : goal.open_at-many-requires
+open_at-many-requires c =
     let v = way-here c.requires.0.2 c.requires.1 c.in-Here.first c.in-Here.is in
-    (c.requires.0.0, v.0, v.1, v.2, _, v.4, v.5)
+    (c.requires.0.0, v.0, v.1, v.2, _, v.4)
 
 pub step_here-requires : goal.step_here-requires
 step_here-requires c =
     let v = way-here c.requires.0.2 c.requires.1 c.in-Here.first c.in-Here.is in
-    let o = c.open_blocks-many.ensures c.requires.0.0 v.0 v.1 v.2 _ v.4 v.5 in
-    opened-stands c.args.store.now c.requires.0.1 v.3 o.0 c.open_blocks-many.result.1 o.1 o.2 c.requires.0.3
+    let o = c.open_at-many.ensures c.requires.0.0 v.0 v.1 v.2 _ v.4 v.5 in
+    opened-stands c.args.store.now c.requires.0.1 v.3 o.0 c.open_at-many.result.1 o.1 o.2 c.requires.0.3
 
 pub returns-in-Here : goal.returns-in-Here
 returns-in-Here c = λ P s h.
     let v = way-here h c.requires.1 c.in-Here.first c.in-Here.is in
-    let o = c.open_blocks-many.ensures P v.0 v.1 v.2 _ v.4 v.5 in
-    opened-makes c.args.store.now s v.3 o.0 c.open_blocks-many.result.1 o.1 o.2 _ _ c.step_here.result c.step_here.ensures
+    let o = c.open_at-many.ensures P v.0 v.1 v.2 _ v.4 v.5 in
+    opened-makes c.args.store.now s v.3 o.0 c.open_at-many.result.1 o.1 o.2 _ _ c.step_here.result c.step_here.ensures

@@ -10,7 +10,7 @@ use Rattle.count_step.proofs.standing.open_blocks.Given as goal
 
 abbrev pub invariant-loop-inside : goal.invariant-loop-inside
 invariant-loop-inside l =
-    (P : Block) (es : List Entry) (i : ℕ) (r : Block) (count : ℕ) → Inner l.program.start l.program.used l.n P es i r (here r) l.program.bytes.now l.initial.words count → l.fn.first ≡ kind_of r
+    (P : Block) (es : List Entry) (i : ℕ) (r : Block) (count : ℕ) → Inner l.program.start l.program.used l.n P es i r (here r) l.program.bytes.now l.initial.words count
     → (o : Opened l.program.start l.program.used l.many P es r l.program.bytes.now l.words count) × (l.inside ≡ kind_of o.left)
 
 abbrev pub decreases-loop-inside : goal.decreases-loop-inside
