@@ -22,7 +22,8 @@ use record::refusal::Refusal;
 use record::{Class, Header, Sort};
 
 // What a term's head leaves to check.
-enum Opened {
+#[derive(Clone, Copy)]
+pub enum Opened {
     // Nothing: a tuple, or no term.
     Whole(Verdict),
     // The last term of a let-one or a rec, by where it starts, beside the verdict on what stands before it.

@@ -96,12 +96,12 @@ pub fn weigh(rule: u32, gross: u32, tare: u32, store: &mut [u32]) -> Result<(), 
     if store.is_empty() || MOST < store.len() {
         return Err(Refusal::BadStore);
     }
-    let Ok(rule) = Rule::try_from(rule) else {
+    let Ok(_) = Rule::try_from(rule) else {
         return Err(Refusal::BadRule);
     };
     fill(
         store,
-        rule.count(net_load(gross, tare)),
+        count_of(rule, net_load(gross, tare)),
         tare_larger(gross, tare),
     );
     Ok(())

@@ -17,6 +17,7 @@ returns-in_default c =
 pub returns : goal.returns
 returns c =
     let a = c.args in
-    let w = rule-numbered c.in-Ok.rule in
-    weigh-filled a.rule a.gross a.tare c.net_load.result c.count.result c.tare_larger.result a.store.now c.fill.new.store
-    (grind (arith, nat_tests), omega arith) (omega (arith, c.in-Ok.ensures, w.0), omega (arith, c.in-Ok.ensures, w.1)) c.net_load.ensures (rw c.in-Ok.ensures at c.count.ensures) c.tare_larger.ensures c.fill.ensures
+    let e = c.in-Ok.ensures in
+    let w = rule-numbered c.in-Ok.field-0 in
+    weigh-filled a.rule a.gross a.tare c.net_load.result c.count_of.result c.tare_larger.result a.store.now c.fill.new.store
+    (grind (arith, nat_tests), omega arith) (omega (arith, e, w.0), omega (arith, e, w.1)) c.net_load.ensures c.count_of.ensures c.tare_larger.ensures c.fill.ensures
