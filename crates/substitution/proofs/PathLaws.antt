@@ -5,7 +5,7 @@ use mathlib.Core.Bool.{◌&&◌, Bool}
 use mathlib.Core.List.{List, [], ◌∷◌}
 use lib.ListN.{length}
 use native.Mathlib.Omega.{arith}
-use Rattle.std.specs.Prelude.{None, Some}
+use Rattle.std.specs.Prelude.{Option, None, Some}
 use Rattle.buffer.specs.LittleEndian.{val}
 use Rattle.buffer.specs.Slice.{part}
 use Rattle.record.specs.Term.{simple_size}
@@ -17,6 +17,7 @@ use Rattle.rules.proofs.ReplacedLaws.{replaced-empty, replaced-let_all, replaced
 use Rattle.place.proofs.TermSubstitutionLaws.{onward-let_all, onward-let_one, onward-rec, onward-row, onward-tuple, row-empty}
 use Rattle.substitution.specs.Path.{Ended, Left, Stepped, left_as, place_of}
 use Rattle.substitution.specs.Ranged.{RangedAtoms}
+use Rattle.substitution.specs.ValuesLeft.{values_left}
 use Rattle.substitution.specs.declared.path.Path.{Path}
 use Rattle.substitution.specs.declared.path.Path.TheVariants.{At, Row}
 use Rattle.substitution.proofs.AtomSubstitutionLaws.{atom-room}
@@ -30,9 +31,10 @@ pub record Onward (l : List ℕ) (from to : Path) (k : ℕ) (t : Term) : Type 0 
   pub closes : (S : Vars) → closed_in S t ≡ closed_in S left
   pub counts : (f : Substitution) → replaced f t ≡ replaced f left
   pub stores : (f : Substitution) → left_as l to (substitute f left) ≡ left_as l from (substitute f t)
+  pub leaves : (w : List (Option ℕ)) → values_left w t ≡ values_left w left
 
 pub begin : {l : List ℕ} {from : Path} {k : ℕ} {t : Term} → Left l from k t → Onward l from from k t
-begin {t = t} h = record { left = t; here = h; ahead = omega arith; closes = λ S. refl; counts = λ f. refl; stores = λ f. refl }
+begin {t = t} h = record { left = t; here = h; ahead = omega arith; closes = λ S. refl; counts = λ f. refl; stores = λ f. refl; leaves = λ w. refl }
 
 -- How far the next atom can be: the kinds between take no more than this.
 abbrev pub rank : List ℕ → Path → ℕ
@@ -47,7 +49,7 @@ closed-simple S (pred_of a) = refl
 
 module _ {l : List ℕ} {from : Path} {k p : ℕ} {t : Term} (o : Onward l from (At p) k t) where
   pub past-let_all : val (part l (p + 2) 2) ≡ 38 → Onward l from (At (p + 4)) k t
-  unfolding closed_in
+  unfolding closed_in values_left
   past-let_all e =
       let v = ranged-let_all o.here e in
       record {
@@ -57,6 +59,7 @@ module _ {l : List ℕ} {from : Path} {k p : ℕ} {t : Term} (o : Onward l from 
         closes = λ S. o.closes S ∙ ap (closed_in S) v.view.is;
         counts = λ f. o.counts f ∙ ap (replaced f) v.view.is ∙ replaced-let_all f v.view.first v.view.last;
         stores = λ f. let w = onward-let_all f o.here.here v.view in w.same ∙ o.stores f;
+        leaves = λ w. o.leaves w ∙ ap (values_left w) v.view.is;
       }
 
   pub into-tuple : val (part l (p + 2) 2) ≡ 36 → Onward l from (Row (p + 4) k) k t
@@ -70,11 +73,12 @@ module _ {l : List ℕ} {from : Path} {k p : ℕ} {t : Term} (o : Onward l from 
         closes = λ S. o.closes S ∙ ap (closed_in S) v.view.is;
         counts = λ f. o.counts f ∙ ap (replaced f) v.view.is;
         stores = λ f. onward-tuple f o.here.here v.view ∙ o.stores f;
+        leaves = λ w. o.leaves w ∙ ap (values_left w) v.view.is;
       }
 
   pub step-let_one : (v : RangedLetOne l p k o.left) (q x : ℕ) → q ≡ p + simple_size v.view.bound → x ≡ val (part l (p + 4) 4)
       → Stepped l from k t (record { at = q; binds = Some x }) (At (q + 8))
-  unfolding closed_in
+  unfolding closed_in values_left
   step-let_one v q x eq ex =
       subst (λ (y : ℕ). Stepped l from k t (record { at = q; binds = Some y }) (At (q + 8))) (sym (ex ∙ v.view.variable-read))
       (subst (λ (j : ℕ). Stepped l from k t (record { at = j; binds = Some v.view.variable }) (At (j + 8))) (sym eq) (record {
@@ -90,10 +94,11 @@ module _ {l : List ℕ} {from : Path} {k p : ℕ} {t : Term} (o : Onward l from 
         counts = λ f. o.counts f ∙ ap (replaced f) v.view.is ∙ replaced-let_one f v.view.variable v.view.bound v.view.last;
         stays = λ f m is. let w = onward-let_one f o.here.here v.view m is in record { here = w.here; range = v.last };
         stores = λ f m is. let w = onward-let_one f o.here.here v.view m is in w.same ∙ o.stores f;
+        leaves = λ w. o.leaves w ∙ ap (values_left w) v.view.is;
       }))
 
   pub step-rec : RangedRec l p k o.left → Stepped l from k t (record { at = p + 8; binds = None }) (At (p + 16))
-  unfolding closed_in
+  unfolding closed_in values_left
   step-rec v = record {
     atom = v.view.count;
     left = tuple v.view.start;
@@ -105,11 +110,12 @@ module _ {l : List ℕ} {from : Path} {k p : ℕ} {t : Term} (o : Onward l from 
     counts = λ f. o.counts f ∙ ap (replaced f) v.view.is ∙ replaced-rec f v.view.variable v.view.count v.view.start v.view.body;
     stays = λ f m is. let w = onward-rec f o.here.here v.view m is in record { here = w.here; range = v.start };
     stores = λ f m is. let w = onward-rec f o.here.here v.view m is in w.same ∙ o.stores f;
+    leaves = λ w. o.leaves w ∙ ap (values_left w) v.view.is;
   }
 
 module _ {l : List ℕ} {from : Path} {k p n : ℕ} {t : Term} (o : Onward l from (Row p n) k t) where
   pub step-row : (n ≡ 0 → ⊥) → Stepped l from k t (record { at = p; binds = None }) (Row (p + 8) (n - 1))
-  unfolding closed_in closed_atoms substitute
+  unfolding closed_in closed_atoms substitute values_left
   step-row ne = go o.here.0 o.here.1 o.here.2
     where
       go : (ys : List Atom) → o.left ≡ tuple ys → RangedAtoms l p n ys → Stepped l from k t (record { at = p; binds = None }) (Row (p + 8) (n - 1))
@@ -132,10 +138,11 @@ module _ {l : List ℕ} {from : Path} {k p n : ℕ} {t : Term} (o : Onward l fro
             stores = λ f m e.
                 let w = onward-row f h.here m e in
                 w.1 ∙ ap (λ (u : Term). left_as l (Row p n) (substitute f u)) (sym is) ∙ o.stores f;
+            leaves = λ w. o.leaves w ∙ ap (values_left w) is;
           }
 
   pub row_ended : n ≡ 0 → Ended l from t
-  unfolding closed_in closed_atoms substitute
+  unfolding closed_in closed_atoms substitute values_left
   row_ended e = go o.here.0 o.here.1 o.here.2
     where
       go : (ys : List Atom) → o.left ≡ tuple ys → RangedAtoms l p n ys → Ended l from t
@@ -143,6 +150,7 @@ module _ {l : List ℕ} {from : Path} {k p n : ℕ} {t : Term} (o : Onward l fro
         closes = λ S. o.closes S ∙ ap (closed_in S) is;
         counts = λ f. o.counts f ∙ ap (replaced f) is ∙ replaced-tuple f [] ∙ replaced-empty f;
         stores = λ f. sym (row-empty l p) ∙ ap (λ (u : Term). left_as l (Row p n) (substitute f u)) (sym is) ∙ o.stores f;
+        leaves = λ w. o.leaves w ∙ ap (values_left w) is;
       }
       go (a ∷ ys) is h = absurd (omega (arith, h.count))
 

@@ -1,3 +1,4 @@
 pub mod Ranged
 pub mod Marks
 pub mod Path
+pub mod ValuesLeft

@@ -1,5 +1,5 @@
 -- The path of a term's free variables: what is left of it, and a step along it.
-use Rattle.std.specs.Prelude.{ℕ, ◌+◌, ◌≡◌, ◌<◌, ◌≤◌, ◌&&◌, true, List, [], Option, None, Some, length}
+use Rattle.std.specs.Prelude.{ℕ, ◌+◌, ◌≡◌, ◌<◌, ◌≤◌, ◌&&◌, true, List, [], Option, None, Some, length, set}
 use Rattle.buffer.specs.Slice.{put}
 use Rattle.record.specs.Term.{encode_atom, encode_atoms, encode_term_record}
 use Rattle.rules.specs.FreeVariables.{Vars, adding, closed_atom, closed_in}
@@ -7,6 +7,7 @@ use Rattle.rules.specs.Replaced.{replaced, replaced_atom}
 use Rattle.rules.specs.Substitution.{Substitution, except, substitute, substitute_atom}
 use Rattle.rules.specs.Syntax.{Atom, Term, let_all, let_one, rec, tuple}
 use Rattle.substitution.specs.Ranged.{RangedAtom, RangedAtoms, RangedTerm}
+use Rattle.substitution.specs.ValuesLeft.{values_left}
 use Rattle.substitution.specs.declared.path.Path.{Path}
 use Rattle.substitution.specs.declared.path.Path.TheVariants.{At, Row}
 use Rattle.substitution.specs.declared.path.Stop.{Stop}
@@ -43,6 +44,11 @@ abbrev pub except_bound : Option ℕ → Substitution → Substitution
 except_bound None f = f
 except_bound (Some x) f = except x f
 
+-- The array once the variable that is bound, where one is, has no value.
+abbrev pub unset : Option ℕ → List (Option ℕ) → List (Option ℕ)
+unset None w = w
+unset (Some x) w = set w x None
+
 -- A step from where t is left: an atom stands at the stop, and no variable is free in t but in that atom and in what is left then.
 pub record Stepped (l : List ℕ) (from : Path) (k : ℕ) (t : Term) (stop : Stop) (path : Path) : Type 0 where
   pub atom : Atom
@@ -56,12 +62,14 @@ pub record Stepped (l : List ℕ) (from : Path) (k : ℕ) (t : Term) (stop : Sto
   pub stays : (f : Substitution) (m : List ℕ) → m ≡ put l stop.at (encode_atom (substitute_atom f atom)) → Left m path k left
   pub stores : (f : Substitution) (m : List ℕ) → m ≡ put l stop.at (encode_atom (substitute_atom f atom))
       → left_as m path (substitute (except_bound stop.binds f) left) ≡ left_as l from (substitute f t)
+  pub leaves : (w : List (Option ℕ)) → values_left w t ≡ values_left (unset stop.binds w) left
 
 -- Where the path has ended, nothing of t is left.
 pub record Ended (l : List ℕ) (from : Path) (t : Term) : Type 0 where
   pub closes : (S : Vars) → closed_in S t ≡ true
   pub counts : (f : Substitution) → replaced f t ≡ 0
   pub stores : (f : Substitution) → l ≡ left_as l from (substitute f t)
+  pub leaves : (w : List (Option ℕ)) → values_left w t ≡ w
 
 -- What the next stop says of the term t that was left.
 abbrev pub Next : List ℕ → Path → ℕ → Term → Option Stop → Path → Type 0

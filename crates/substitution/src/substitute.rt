@@ -11,6 +11,7 @@ ghost use Rattle.rules.specs.Replaced.{replaced, replaced_atom};
 ghost use Rattle.rules.specs.Substitution.{from_store, substitute, substitute_atom};
 ghost use Rattle.rules.specs.Syntax.{Atom, Term};
 ghost use Rattle.substitution.specs.Ranged.{RangedAtom, RangedTerm};
+ghost use Rattle.substitution.specs.ValuesLeft.{values_left};
 ghost use Rattle.numerals.specs.Values.{substitution_of};
 
 use crate::path::Path;
@@ -37,7 +38,8 @@ fn substitute_atom(buf: &mut [u8], at: usize, values: &Values) -> usize
 // handed over is copied, which takes a call of the C library's.
 pub fn substitute_along(buf: &mut [u8], at: usize, k: u32, values: &mut Values) -> usize
     requires { (t : Term) × RangedTerm buf.old at k t }
-    ensures { (t : Term) → RangedTerm buf.old at k t → (buf.new ≡ put buf.old at (encode_term_record (substitute (substitution_of values.old) t))) × (result ≡ replaced (substitution_of values.old) t) }
+    ensures substitutes { (t : Term) → RangedTerm buf.old at k t → (buf.new ≡ put buf.old at (encode_term_record (substitute (substitution_of values.old) t))) × (result ≡ replaced (substitution_of values.old) t) }
+    ensures leaves { (t : Term) → RangedTerm buf.old at k t → values.new ≡ values_left values.old t }
 {
     let mut replaced = 0;
     let mut path = Path::At(at);

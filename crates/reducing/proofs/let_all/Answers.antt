@@ -9,4 +9,4 @@ put_tuple-requires c = record { blank = values-blank; numerals = (c.requires.0.0
 
 pub returns : goal.returns
 returns c =
-    λ vs u s r. filled_is c.args.buf.now _ _ c.args.p.at c.args.p.down c.args.used _ _ _ u (c.put_tuple.ensures vs s) (c.substitute_along-replaced.ensures u r) c.remove.ensures
+    λ vs u s r. filled_is c.args.buf.now _ _ c.args.p.at c.args.p.down c.args.used _ _ _ u (c.put_tuple.ensures vs s) (c.substitute_along-replaced.ensures.substitutes u r) c.remove.ensures

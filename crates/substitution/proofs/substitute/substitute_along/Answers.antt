@@ -1,7 +1,8 @@
 -- Invariant: what is left to do, done to the present bytes, gives what was to be done at first, and so with the count of what is
--- replaced.
+-- replaced and with the array.
 use Rattle.std.proofs.Common.{ap, sym, ℕ, Option, length-set, arith}
-use Rattle.substitution.proofs.SubstituteAtLaws.{replaced-room, todo-most, todo-next, unset}
+use Rattle.substitution.specs.Path.{unset}
+use Rattle.substitution.proofs.SubstituteAtLaws.{replaced-room, todo-most, todo-next}
 use Rattle.substitution.proofs.substitute.substitute_along.Goals as goal
 
 pub overflow_add-replaced : goal.overflow_add-replaced

@@ -29,7 +29,7 @@ pub returns : goal.returns
 returns c =
     λ t h.
     let f : Substitution = from_store c.args.store.now in
-    let done = c.substitute_along-replaced.ensures t (record-ranged h c.requires.1 c.contents_at.ensures) in
+    let done = c.substitute_along-replaced.ensures.substitutes t (record-ranged h c.requires.1 c.contents_at.ensures) in
     let same : substitution_of c.put_store.new.values ≡ f = c.put_store.ensures in
     let e = done.0 ∙ ap₂ (λ (n : ℕ) (g : Substitution). put c.args.buf.now n (encode_term_record (substitute g t))) c.contents_at.ensures same in
     (c.zero.ensures ∙ term-put h (substitute f t) (term_size-substitute f t) _ e, done.1 ∙ ap (λ (g : Substitution). replaced g t) same)
