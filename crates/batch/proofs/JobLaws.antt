@@ -207,7 +207,7 @@ values-zeros k r Spent n = refl
 values-zeros k r Refused n = refl
 
 -- outcome and count are written first, and then the values
-front-put : (l : List ℕ) (o s : ℕ) → 2 ≤ length l → set (set l 0 o) 1 s ≡ o ∷ s ∷ drop 2 l
+pub front-put : (l : List ℕ) (o s : ℕ) → 2 ≤ length l → set (set l 0 o) 1 s ≡ o ∷ s ∷ drop 2 l
 front-put [] o s h = absurd (omega arith)
 front-put (x ∷ []) o s h = absurd (omega arith)
 front-put (x ∷ y ∷ l) o s h = refl

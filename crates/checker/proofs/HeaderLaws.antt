@@ -36,12 +36,12 @@ module _ (s : Sort) (buf : List ℕ) (used : ℕ) where
     within : used ≤ length buf
     within = (good-buffer buf used fine).within
 
-    row-end : head_at buf 0 ≡ End → header_row s buf used ≡ 2
+    pub row-end : head_at buf 0 ≡ End → header_row s buf used ≡ 2
     row-end e =
         let none = end-tells buf 0 e in
         header-cut s buf used (omega (arith, within, contents_at-low (header_in buf)))
 
-    row-short : head_at buf 0 ≡ Short → header_row s buf used ≡ 2
+    pub row-short : head_at buf 0 ≡ Short → header_row s buf used ≡ 2
     row-short e =
         if-whole (λ whole.
         let least = contents_at-low (header_in buf) in

@@ -54,10 +54,10 @@ module _ (k largest : ℕ) (s : List ℕ) (at end : ℕ) (fits : end ≤ length 
   row-length : length (take end s) ≡ end
   row-length = length-take-le end s fits
 
-  row-left : at < end → head_at (take end s) at ≡ End → ⊥
+  pub row-left : at < end → head_at (take end s) at ≡ End → ⊥
   row-left h e = omega (arith, row-length, end-tells (take end s) at e)
 
-  row-short : at < end → head_at (take end s) at ≡ Short → row_verdict k largest s at end ≡ Malformed
+  pub row-short : at < end → head_at (take end s) at ≡ Short → row_verdict k largest s at end ≡ Malformed
   row-short h e =
       ap (block_verdict k largest) (decode-bad (between s at end) (sym (ap split (drop-take at end s)) ∙ short-bad (take end s) at (omega (arith, row-length)) e))
 

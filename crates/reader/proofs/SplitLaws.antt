@@ -84,10 +84,10 @@ module _ (l : List ℕ) (at : ℕ) where
         let len = length-drop at l in
         is_only-no kind (drop at l) (λ f. h (omega (arith, f.least, f.stored)) (omega (arith, f.least, f.stored)))
 
-    only_end : head_at l at ≡ End → is_only kind (drop at l) ≡ false
+    pub only_end : head_at l at ≡ End → is_only kind (drop at l) ≡ false
     only_end e = no-only (λ least inside. omega (arith, least, inside, end-tells l at e))
 
-    only-short : head_at l at ≡ Short → is_only kind (drop at l) ≡ false
+    pub only-short : head_at l at ≡ Short → is_only kind (drop at l) ≡ false
     only-short e = no-only (short-tells l at e)
 
     pub only-none : ((n k : ℕ) → head_at l at ≡ Record n k → ⊥) → is_only kind (drop at l) ≡ false

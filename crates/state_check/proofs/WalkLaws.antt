@@ -169,7 +169,7 @@ module _ {P : Block} {buf ws : List ℕ} {o n j first end p : ℕ} (g : Reading 
         of-body e = let h : ◌≡◌ {A = Option (ℕ × ℕ)} (Some (head, mark)) (Some (20, 2)) = sym i ∙ ap inside_of e in let q : ◌≡◌ {A = ℕ × ℕ} (head, mark) (20, 2) = cc in (ap (λ (z : ℕ × ℕ). z.0) q, ap (λ (z : ℕ × ℕ). z.1) q)
 
         -- what the code asks of it
-        reading-progress : mark ≤ get_or ws (3 + 6 * j + 5) 0
+        pub reading-progress : mark ≤ get_or ws (3 + 6 * j + 5) 0
         unfolding held_at
         reading-progress = by-rest l.rest is-inside
           where
@@ -179,7 +179,7 @@ module _ {P : Block} {buf ws : List ℕ} {o n j first end p : ℕ} (g : Reading 
             by-rest (loop x y q r) i = omega (arith, i.1, of-body i.0)
             by-rest (nest q r) i = omega (arith, of-block i)
 
-        reading-room : (o + p + 4 ≤ length buf) × (head ≤ 20)
+        pub reading-room : (o + p + 4 ≤ length buf) × (head ≤ 20)
         reading-room = by-rest l.rest is-inside l.stands
           where
             by-rest : (r : Block) → Inside k here r → BlockAt buf (o + p) r → (o + p + 4 ≤ length buf) × (head ≤ 20)

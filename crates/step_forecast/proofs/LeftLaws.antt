@@ -154,7 +154,7 @@ module _ {l s : List ℕ} {whole : Part} {b : Block} {a : ℕ} {left : Part} {fo
                 row-part s (subst (λ (i : ℕ). RowOf l (length s) i next parts.inside) (sym (from_start.1 n)) (parts.within n))
 
         -- what is inside by the call, what is behind by the loop
-        inside-called : Halves l s whole b a left sum inside behind
+        pub inside-called : Halves l s whole b a left sum inside behind
         inside-called =
             let o = in_order from_start in
             record {
@@ -171,7 +171,7 @@ module _ {l s : List ℕ} {whole : Part} {b : Block} {a : ℕ} {left : Part} {fo
             }
 
         -- what is behind by the call, what is inside by the loop
-        behind-called : Halves l s whole b a left sum behind inside
+        pub behind-called : Halves l s whole b a left sum behind inside
         behind-called =
             let o = in_order from_start in
             record {

@@ -51,7 +51,7 @@ module _ (l : List ℕ) (at : ℕ) where
     pub stands-length : length (record_at l at) ≡ n
     stands-length = ap length stands-bytes ∙ front_length
 
-    stands-kind : record_kind (record_at l at) ≡ k
+    pub stands-kind : record_kind (record_at l at) ≡ k
     stands-kind =
         let w = record-tells l at n k e in
         let least = w.least in
@@ -61,7 +61,7 @@ module _ (l : List ℕ) (at : ℕ) where
         ∙ w.is-kind
 
     -- the value or variable number behind length and kind
-    stands-number : 8 ≤ n → val (part l (at + 4) 4) ≡ val (part (record_at l at) 4 4)
+    pub stands-number : 8 ≤ n → val (part l (at + 4) 4) ≡ val (part (record_at l at) 4 4)
     unfolding part
     stands-number h =
         ap val (ap (take 4) (sym (drop-drop 4 at l)) ∙ sym (slice-take n 4 4 (drop at l) h) ∙ ap (λ (b : List ℕ). part b 4 4) (sym stands-bytes))

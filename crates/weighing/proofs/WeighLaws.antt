@@ -84,11 +84,11 @@ rule-within : (rule : ℕ) → IsRule rule → Within 2 rule
 rule-within rule (inl e) = (omega arith, omega arith)
 rule-within rule (inr e) = (omega arith, omega arith)
 
-count_down : (rule net : ℕ) → rule ≡ 1 → count_of rule net ≡ net / 20
+pub count_down : (rule net : ℕ) → rule ≡ 1 → count_of rule net ≡ net / 20
 unfolding count_of
 count_down rule net e = rw e refl
 
-count-nearest : (rule net : ℕ) → rule ≡ 2 → count_of rule net ≡ (net + 10) / 20
+pub count-nearest : (rule net : ℕ) → rule ≡ 2 → count_of rule net ≡ (net + 10) / 20
 unfolding count_of
 count-nearest rule net e = rw e refl
 
