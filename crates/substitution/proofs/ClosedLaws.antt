@@ -1,5 +1,5 @@
 -- The test that no variable is free: what is left to test is what was to test at first.
-use Rattle.std.proofs.Common.{◌≡◌, ◌∙◌, ap, refl, sym, ℕ, ◌+◌, ◌<◌, Bool, cond, false, true, eqb, List, Option, None, Some, length, replicate, set, arith}
+use Rattle.std.proofs.Common.{◌≡◌, ◌∙◌, ap, ap₂, refl, subst, sym, ℕ, ◌+◌, ◌-◌, ◌<◌, Bool, cond, false, true, eqb, List, Option, None, Some, length, replicate, set, arith}
 use mathlib.Core.Bool.{◌&&◌}
 use mathlib.Core.Option.{none}
 use mathlib.Core.Path.{fun_ext}
@@ -9,18 +9,19 @@ use lib.Seq.{get_or-set_other, get_or-set_same}
 use Rattle.buffer.specs.LittleEndian.{val}
 use Rattle.buffer.specs.Slice.{part, put}
 use Rattle.record.specs.Term.{encode_atom}
-use Rattle.rules.specs.FreeVariables.{Vars, adding, closed, closed_atom, closed_in, no_vars}
+use Rattle.rules.specs.FreeVariables.{Vars, adding, closed, closed_atom, closed_atoms, closed_in, no_vars}
 use Rattle.rules.specs.Substitution.{Substitution, or_ref, substitute_atom}
-use Rattle.rules.specs.Syntax.{Atom, Term, num, ref}
+use Rattle.rules.specs.Syntax.{Atom, Term, num, ref, tuple}
 use Rattle.numerals.proofs.ValuesLaws.{get_d-alike}
 use Rattle.place.proofs.AtLaws.{put_same}
 use Rattle.place.proofs.TermViewLaws.{as-num, as-ref, atom-kind}
 use Rattle.substitution.specs.Marks.{marked}
 use Rattle.substitution.specs.Path.{Left, Stepped, adding_bound}
-use Rattle.substitution.specs.Ranged.{RangedAtom, RangedTerm}
+use Rattle.substitution.specs.Ranged.{RangedAtom, RangedAtoms, RangedTerm}
 use Rattle.substitution.specs.declared.path.Path.{Path}
-use Rattle.substitution.specs.declared.path.Path.TheVariants.{At}
+use Rattle.substitution.specs.declared.path.Path.TheVariants.{At, Row}
 use Rattle.substitution.specs.declared.path.Stop.{Stop}
+use Rattle.substitution.proofs.PathLaws.{begin, row_ended, step-row}
 
 -- MARKS
 
@@ -80,6 +81,9 @@ substitute-nothing (ref x) = refl
 unwritten : {l : List ℕ} {p : ℕ} {a : Atom} → RangedAtom l p a → l ≡ put l p (encode_atom (substitute_atom nothing a))
 unwritten {l} {p} {a} h = sym (ap (λ (y : Atom). put l p (encode_atom y)) (substitute-nothing a) ∙ put_same h.here.here)
 
+and-found : (a b c : Bool) → (a && b) ≡ c → a ≡ false → false ≡ c
+and-found a b c e f = sym (ap (λ (y : Bool). y && b) f) ∙ e
+
 and-next : (a b c : Bool) → (a && b) ≡ c → a ≡ true → b ≡ c
 and-next a b c e f = sym (ap (λ (y : Bool). y && b) f) ∙ e
 
@@ -97,6 +101,9 @@ module _ {m : List Bool} {l : List ℕ} {b : Bool} {from : Path} {k : ℕ} (s : 
     both : (r && closed_in (adding_bound stop.binds (marked m)) v.left) ≡ b
     both = ap (λ (y : Bool). y && closed_in (adding_bound stop.binds (marked m)) v.left) is ∙ sym (v.closes (marked m)) ∙ s.goal
 
+    pub todo-found : r ≡ false → false ≡ b
+    todo-found f = and-found r (closed_in (adding_bound stop.binds (marked m)) v.left) b both f
+
     pub todo-next : r ≡ true → length m ≡ 17 → (m₁ : List Bool) → m₁ ≡ marking stop.binds m → ClosedTodo m₁ l b path k
     todo-next f long m₁ z = record {
       term = v.left;
@@ -105,3 +112,28 @@ module _ {m : List Bool} {l : List ℕ} {b : Bool} {from : Path} {k : ℕ} (s : 
           ap (λ (S : Vars). closed_in S v.left) (ap marked z ∙ marking-adding stop.binds m long v.low)
           ∙ and-next r (closed_in (adding_bound stop.binds (marked m)) v.left) b both f;
     }
+
+-- A ROW OF ATOMS
+
+pub row-begin : (m : List Bool) {l : List ℕ} {p n k : ℕ} {ys : List Atom} → RangedAtoms l p n ys → ClosedTodo m l (closed_atoms (marked m) ys) (Row p n) k
+unfolding closed_in
+row-begin m {ys = ys} h = record { term = tuple ys; here = (ys, refl, h); goal = refl }
+
+-- with the path as it was read, and with the row's place and its count
+pub todo-as : {m : List Bool} {l : List ℕ} {b : Bool} {from path : Path} {k : ℕ} → ClosedTodo m l b from k → from ≡ path → ClosedTodo m l b path k
+todo-as {m} {l} {b} {k = k} s e = subst (λ (y : Path). ClosedTodo m l b y k) e s
+
+pub row_moved : {m : List Bool} {l : List ℕ} {b : Bool} {p q c d k : ℕ} → ClosedTodo m l b (Row p c) k → p ≡ q → c ≡ d → ClosedTodo m l b (Row q d) k
+row_moved s e f = todo-as s (ap₂ Row e f)
+
+module _ {m : List Bool} {l : List ℕ} {b : Bool} {p c k : ℕ} (s : ClosedTodo m l b (Row p c) k) where
+  pub row_first : (c ≡ 0 → ⊥) → Stepped l (Row p c) k s.term (record { at = p; binds = None }) (Row (p + 8) (c - 1))
+  row_first ne = step-row (begin {k = k} s.here) ne
+
+  pub row_done : c ≡ 0 → true ≡ b
+  row_done e = let z = row_ended (begin {k = k} s.here) e in sym (z.closes (marked m)) ∙ s.goal
+
+  -- all that is left, once it is tested
+  pub row_all : (r : Bool) → ((ys : List Atom) → RangedAtoms l p c ys → r ≡ closed_atoms (marked m) ys) → r ≡ b
+  unfolding closed_in
+  row_all r done = done s.here.0 s.here.2 ∙ ap (closed_in (marked m)) (sym s.here.1) ∙ s.goal

@@ -1,11 +1,11 @@
 // The test that no variable is free in a term: along the same path as substitution, with a mark for each variable that a
 // let-one has bound.
-ghost use Rattle.std.specs.Prelude.{◌≡◌, ◌≤◌, length};
+ghost use Rattle.std.specs.Prelude.{◌≡◌, List, ◌≤◌, length};
 ghost use Rattle.record.specs.Holding.{TermIn};
-ghost use Rattle.rules.specs.FreeVariables.{all_vars, closed, closed_atom};
+ghost use Rattle.rules.specs.FreeVariables.{all_vars, closed, closed_atom, closed_atoms};
 ghost use Rattle.rules.specs.Syntax.{Atom, Term};
 ghost use Rattle.substitution.specs.Marks.{marked};
-ghost use Rattle.substitution.specs.Ranged.{RangedAtom, RangedTerm};
+ghost use Rattle.substitution.specs.Ranged.{RangedAtom, RangedAtoms, RangedTerm};
 
 use crate::path::Path;
 use buffer::get_u32;
@@ -23,13 +23,32 @@ fn closed_atom(buf: &[u8], at: usize, bound: &[bool; SLOTS]) -> bool
     }
 }
 
+fn closed_atoms(buf: &[u8], at: usize, count: usize, bound: &[bool; SLOTS]) -> bool
+    requires { (ys : List Atom) × RangedAtoms buf.now at count ys }
+    ensures { (ys : List Atom) → RangedAtoms buf.now at count ys → result ≡ closed_atoms (marked bound.now) ys }
+{
+    for i in 0..count {
+        if !closed_atom(buf, at + 8 * i, bound) {
+            return false;
+        }
+    }
+    true
+}
+
 fn closed_at(buf: &[u8], at: usize, k: u32) -> bool
     requires { (t : Term) × RangedTerm buf.now at k t }
     ensures { (t : Term) → RangedTerm buf.now at k t → result ≡ closed t }
 {
     let mut bound = [false; SLOTS];
     let mut path = Path::At(at);
-    while let Some(stop) = path.next(buf, k) {
+    loop {
+        // The tuple in which it ends: its atoms one after the other, with no look at the path between them.
+        if let Path::Row(row, n) = path {
+            return closed_atoms(buf, row, n, &bound);
+        }
+        let Some(stop) = path.next(buf, k) else {
+            return true;
+        };
         if !closed_atom(buf, stop.at, &bound) {
             return false;
         }
@@ -37,7 +56,6 @@ fn closed_at(buf: &[u8], at: usize, k: u32) -> bool
             bound[x] = true;
         }
     }
-    true
 }
 
 pub fn is_closed(buf: &[u8], used: usize, h: Header) -> bool

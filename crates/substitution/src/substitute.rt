@@ -1,16 +1,16 @@
 // Substitution in place: along the path of free variables, so that no length changes and nothing moves. Each function gives back how
 // many variables it replaced.
-ghost use Rattle.std.specs.Prelude.{◌≡◌, ◌≤◌, length};
+ghost use Rattle.std.specs.Prelude.{◌≡◌, List, map, ◌≤◌, length};
 ghost use Rattle.buffer.specs.Slice.{put};
 ghost use Rattle.record.specs.Answers.{padded};
 ghost use Rattle.record.specs.Header.{encode_term};
 ghost use Rattle.record.specs.Holding.{TermIn};
-ghost use Rattle.record.specs.Term.{encode_atom, encode_term_record};
+ghost use Rattle.record.specs.Term.{encode_atom, encode_atoms, encode_term_record};
 ghost use Rattle.rules.specs.FreeVariables.{all_vars};
-ghost use Rattle.rules.specs.Replaced.{replaced, replaced_atom};
+ghost use Rattle.rules.specs.Replaced.{replaced, replaced_atom, replaced_atoms};
 ghost use Rattle.rules.specs.Substitution.{from_store, substitute, substitute_atom};
 ghost use Rattle.rules.specs.Syntax.{Atom, Term};
-ghost use Rattle.substitution.specs.Ranged.{RangedAtom, RangedTerm};
+ghost use Rattle.substitution.specs.Ranged.{RangedAtom, RangedAtoms, RangedTerm};
 ghost use Rattle.substitution.specs.ValuesLeft.{values_left};
 ghost use Rattle.numerals.specs.Values.{substitution_of};
 
@@ -34,6 +34,17 @@ fn substitute_atom(buf: &mut [u8], at: usize, values: &Values) -> usize
     0
 }
 
+fn substitute_atoms(buf: &mut [u8], at: usize, count: usize, values: &Values) -> usize
+    requires { (ys : List Atom) × RangedAtoms buf.old at count ys }
+    ensures { (ys : List Atom) → RangedAtoms buf.old at count ys → (buf.new ≡ put buf.old at (encode_atoms (map (substitute_atom (substitution_of values.now)) ys))) × (result ≡ replaced_atoms (substitution_of values.now) ys) }
+{
+    let mut replaced = 0;
+    for i in 0..count {
+        replaced += substitute_atom(buf, at + 8 * i, values);
+    }
+    replaced
+}
+
 // A let-one binds its variable in its last term, so there that variable stays: the array goes along with the path, and is lent since one
 // handed over is copied, which takes a call of the C library's.
 pub fn substitute_along(buf: &mut [u8], at: usize, k: u32, values: &mut Values) -> usize
@@ -43,13 +54,19 @@ pub fn substitute_along(buf: &mut [u8], at: usize, k: u32, values: &mut Values) 
 {
     let mut replaced = 0;
     let mut path = Path::At(at);
-    while let Some(stop) = path.next(buf, k) {
+    loop {
+        // The tuple in which it ends: its atoms one after the other, with no look at the path between them.
+        if let Path::Row(row, n) = path {
+            return replaced + substitute_atoms(buf, row, n, values);
+        }
+        let Some(stop) = path.next(buf, k) else {
+            return replaced;
+        };
         replaced += substitute_atom(buf, stop.at, values);
         if let Some(x) = stop.binds {
             values[x] = None;
         }
     }
-    replaced
 }
 
 // The same with an array of its own: the caller's stays as it is.
