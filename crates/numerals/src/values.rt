@@ -52,8 +52,6 @@ pub fn from_store(store: &[u32]) -> Values
 }
 
 // The same of the numerals of the tuple at an index.
-// A hint and no promise: inlined in the reducer, what it does with vector registers makes the loops there that move bytes a third slower.
-#[inline(never)]
 pub fn put_tuple(values: &mut Values, buf: &[u8], at: usize, k: u32)
     requires blank { substitution_of values.old ≡ from_store [] }
     requires numerals { ((vs : List ℕ) × TermAt buf.now at k (tuple (map num vs))) × (k ≤ 16) }

@@ -49,6 +49,8 @@ fn set_numeral(buf: &mut [u8], used: usize, k: u32, p: Plan)
 }
 
 // Let-all of a tuple: its numerals go into the last term, and the bytes of its head and the tuple go.
+// The hint promises nothing: inlined in the run's loop, what it does with vector registers makes the loops there that move bytes a third slower.
+#[inline(never)]
 fn let_all(buf: &mut [u8], used: usize, k: u32, p: Plan) -> usize
     requires { EditFits k p Leave buf.old used × (used ≤ length buf.old) }
     ensures { Edited k p Leave used buf.old buf.new result }
