@@ -1,5 +1,6 @@
 // How a run of the counting stepper ended, as it crosses the C boundary: no record is left, so there is no used length.
 ghost use Rattle.std.specs.Prelude.{◌≡◌};
+ghost use Rattle.record.specs.Refusal.{refusal_number};
 ghost use Rattle.run.specs.Represents.{run_answer_of};
 ghost use Rattle.counter.specs.Represents.{in_numbers};
 
@@ -16,10 +17,10 @@ pub struct CountedNumbers {
 }
 
 impl From<Result<RunEnd, Refusal>> for CountedNumbers {
-    ghost from_gives = { λ answer numbers. numbers ≡ in_numbers (run_answer_of answer) };
+    ghost from_gives = { λ answer numbers. numbers ≡ in_numbers (run_answer_of refusal_number answer) };
 
     fn from(answer: Result<RunEnd, Refusal>) -> CountedNumbers {
-        let numbers = RunNumbers::from(answer);
+        let numbers = RunNumbers::from(answer.map_err(Refusal::number));
         CountedNumbers {
             number: numbers.number,
             outcome: numbers.outcome,

@@ -11,6 +11,7 @@ ghost use Rattle.rules.specs.Syntax.{Block};
 ghost use Rattle.counting.specs.Counting.{State};
 ghost use Rattle.counting.specs.CountingCall.{counted_to, counts, run_counting};
 ghost use Rattle.counting.specs.CountingMeaning.{Passes};
+ghost use Rattle.record.specs.Refusal.{refusal_number};
 ghost use Rattle.run.specs.Represents.{run_answer_of};
 ghost use Rattle.count_run.specs.Gives.{Gives};
 
@@ -54,7 +55,7 @@ pub fn run_counting(
     store: &mut [u32],
     budget: u32,
 ) -> Result<RunEnd, Refusal>
-    ensures { (run_answer_of result ≡ (run_counting program.now used state.old store.old budget).answer) × (state.new ≡ (run_counting program.now used state.old store.old budget).words) × (store.new ≡ (run_counting program.now used state.old store.old budget).store) }
+    ensures { (run_answer_of refusal_number result ≡ (run_counting program.now used state.old store.old budget).answer) × (state.new ≡ (run_counting program.now used state.old store.old budget).words) × (store.new ≡ (run_counting program.now used state.old store.old budget).store) }
 {
     let h = check::check(program, used, state, store)?;
     Ok(run_accepted(program, used, h, state, store, budget))

@@ -34,7 +34,8 @@ pub fn copy_numerals(buf: &[u8], used: usize, h: Header, store: &mut [u32])
     ensures { (vs : List ℕ) → TermIn no_vars h (tuple (map num vs)) buf.now used → store.new ≡ vs }
 {
     let atoms = h.contents_at() + 4;
-    for (i, value) in store.iter_mut().enumerate() {
-        *value = numeral(buf, atoms, i);
+    // Kept: indexes and no `iter_mut`, for the must-fail edit first_numeral_not_copied begins them at 1.
+    for i in 0..store.len() {
+        store[i] = numeral(buf, atoms, i);
     }
 }

@@ -13,12 +13,19 @@ pub const SLOTS: usize = VARIABLES as usize + 1;
 
 pub type Values = [Option<u32>; SLOTS];
 
+// Every u32 is a value: none of them says that the variable stays.
+fn set(v: u32) -> Option<u32>
+    ensures { result ≡ Some v }
+{
+    Some(v)
+}
+
 pub fn only(x: usize, v: u32) -> Values
     requires { x < 17 }
     ensures { substitution_of result ≡ only_of x v }
 {
     let mut values = [None; SLOTS];
-    values[x] = Some(v);
+    values[x] = set(v);
     values
 }
 
@@ -28,7 +35,7 @@ fn fill<F: Fn(usize) -> u32>(slots: &mut [Option<u32>], value: F)
     ensures { (vs : List ℕ) → length vs ≡ length slots.old → ((i v : ℕ) → i < length vs → F.post value i v → v ≡ get_or vs i 0) → slots.new ≡ map Some vs }
 {
     for (i, slot) in slots.iter_mut().enumerate() {
-        *slot = Some(value(i));
+        *slot = set(value(i));
     }
 }
 

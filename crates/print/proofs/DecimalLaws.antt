@@ -69,6 +69,20 @@ digits-some n = go (ltb n 10) refl
     go true e = omega (arith, digits-small n (ltb-true n 10 e))
     go false e = omega (arith, digits-large n (ltb-false n 10 e))
 
+pub digits_one : (n : ℕ) → length (decimal n) ≤ 1 → n < 10
+digits_one n h = go (ltb n 10) refl
+  where
+    go : (b : Bool) → ltb n 10 ≡ b → n < 10
+    go true t = ltb-true n 10 t
+    go false t = absurd (omega (arith, digits-large n (ltb-false n 10 t), digits-some (n / 10)))
+
+pub digits_more : (n : ℕ) → 1 < length (decimal n) → 10 ≤ n
+digits_more n h = go (ltb n 10) refl
+  where
+    go : (b : Bool) → ltb n 10 ≡ b → 10 ≤ n
+    go true t = absurd (omega (arith, digits-small n (ltb-true n 10 t)))
+    go false t = ltb-false n 10 t
+
 ten-pos : (k : ℕ) → 1 ≤ 10 ^ k
 ten-pos zero = omega arith
 ten-pos (suc k) = omega (arith, ten-pos k, pow-succ' 10 k)

@@ -22,17 +22,18 @@ fn digits(n: u32) -> usize
 }
 
 // Kept: slice and index as two parameters, for the public contracts of put_decimal, put_spaced, put_values and put_outcome have them.
-// From the last digit to the first: the one left over by each division is the next.
+// From the last digit to the first: the one left over by each division is the next, and what is left at last is the first.
 pub fn put_decimal(out: &mut [u8], at: usize, n: u32) -> usize
     requires { at + 10 ≤ length out.old }
     ensures { (out.new ≡ put out.old at (decimal n)) × (result ≡ at + length (decimal n)) × (result ≤ at + 10) }
 {
     let end = at + digits(n);
     let mut left = n;
-    for place in (at..end).rev() {
+    for place in (at + 1..end).rev() {
         out[place] = b'0' + (left % 10) as u8;
         left /= 10;
     }
+    out[at] = b'0' + left as u8;
     end
 }
 

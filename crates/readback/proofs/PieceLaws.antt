@@ -13,6 +13,7 @@ use Rattle.record.specs.Program.{block_size, bound_from, bound_kind, bound_numbe
 use Rattle.record.specs.Term.{simple_size}
 use Rattle.rules.specs.Syntax.{Block, Bound, Expr, assign, loop, rec}
 use Rattle.rules.specs.Translation.{all, atom_of, simple_of, translate}
+use Rattle.record.proofs.KindLaws.{in_program-number, number-named}
 use Rattle.place.proofs.EditLaws.{length-lead}
 use Rattle.place.proofs.HeadsLaws.{length-record_head}
 use Rattle.place.proofs.ProgramBytesLaws.{bound_kind-range, encode_block-assign, encode_block-loop, encode_block-nest, encode_leaf-head, expr_kind-range}
@@ -68,6 +69,9 @@ module _ {l : List ℕ} {p k : ℕ} (x : ℕ) (e : Expr) (r : Block) (h : TermAt
       rw (ey ∙ w.variable-read) (assign-lead x kind v e kind-is v-is)
 
 -- A REC
+
+-- The number of a bound's kind, whether the kind is that of an atom in the program or is named by a number.
+pub ruleset bound_kinds = (in_program-number, number-named)
 
 module _ {l : List ℕ} {p k : ℕ} (x : ℕ) (n : Bound) (b : Block) (h : TermAt l p k (rec x (atom_of n) (all k) (translate k b))) where
   pub rec-room : (p + 20 ≤ length l) × (32 ≤ val (part l (p + 10) 2)) × (val (part l (p + 10) 2) ≤ 35)

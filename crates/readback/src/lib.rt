@@ -2,7 +2,7 @@
 // translation, and meets its terms in the order of the bytes, as the test does (`recognition`): each once, and with no stack.
 #![tactic(auto)]
 
-ghost use Rattle.std.specs.Prelude.{◌≡◌, List, ◌++◌, ℕ, ◌+◌, ◌<◌, ◌≤◌, eqb, length};
+ghost use Rattle.std.specs.Prelude.{◌≡◌, List, ◌++◌, ℕ, ◌+◌, ◌-◌, ◌<◌, ◌≤◌, eqb, length};
 ghost use Rattle.std.proofs.Math.Option.{some};
 ghost use Rattle.buffer.specs.LittleEndian.{val};
 ghost use Rattle.buffer.specs.Slice.{part, put};
@@ -11,6 +11,7 @@ ghost use Rattle.place.specs.TermView.{TermAt};
 ghost use Rattle.record.specs.Answers.{padded};
 ghost use Rattle.record.specs.Header.{encode_program};
 ghost use Rattle.record.specs.Holding.{TermIn};
+ghost use Rattle.record.specs.Kind.{kind_number};
 ghost use Rattle.record.specs.Program.{block_size, encode_block};
 ghost use Rattle.recognition.specs.Scan.{TermsUpTo, own_size};
 ghost use Rattle.rules.specs.FreeVariables.{all_vars};
@@ -91,13 +92,22 @@ fn write_let_one(src: &[u8], at: usize, k: u32, out: &mut [u8], o: usize)
     put_lead(out, o, Kind::Assignment, 16, x, kind, v);
 }
 
+// The kind of the bound that the atom at a place stands for.
+#[tactic(auto, using(crate::proofs::PieceLaws::bound_kinds))]
+fn bound_kind(src: &[u8], at: usize) -> Kind
+    requires { (at + 2 ≤ length src.now) × (32 ≤ val (part src.now at 2)) × (val (part src.now at 2) ≤ 35) }
+    ensures { kind_number result ≡ val (part src.now at 2) - 16 }
+{
+    Kind::read_atom(src, at).in_program()
+}
+
 // Begins the loop of the rec at `at`, inside the record with its head at `head`.
 fn open_loop(src: &[u8], at: usize, out: &mut [u8], o: usize, head: usize)
     requires { ((k : ℕ) × (x : ℕ) × (n : Bound) × (b : Block) × TermAt src.now at k (rec x (atom_of n) (all k) (translate k b))) × (o + 20 ≤ length out.old) }
     ensures { (k x : ℕ) (n : Bound) (b : Block) → TermAt src.now at k (rec x (atom_of n) (all k) (translate k b)) → out.new ≡ put out.old o (loop_bytes x n head 0) }
 {
     let x = buffer::get_u32(src, at + 4);
-    let bound = Kind::read_atom(src, at + 10).in_program();
+    let bound = bound_kind(src, at + 10);
     let v = buffer::get_u32(src, at + 12);
     put_lead(out, o, Kind::Loop, head, x, bound, v);
     put_head(out, o + 16, Kind::Block, 0);

@@ -1,5 +1,6 @@
 // How a run of the reducer ended: as any run, and how many variables its reductions replaced (02 C-13).
 ghost use Rattle.std.specs.Prelude.{◌≡◌};
+ghost use Rattle.record.specs.Refusal.{refusal_number};
 ghost use Rattle.run.specs.Represents.{run_answer_of};
 ghost use Rattle.reducer.specs.Represents.{answer_of, in_numbers, replaced_of};
 
@@ -39,9 +40,9 @@ impl From<Result<Reduced, Refusal>> for ReducedNumbers {
 }
 
 fn numbers_of(answer: Result<RunEnd, Refusal>, replaced: u64) -> ReducedNumbers
-    ensures { result ≡ in_numbers (run_answer_of answer) replaced }
+    ensures { result ≡ in_numbers (run_answer_of refusal_number answer) replaced }
 {
-    let end = RunNumbers::from(answer);
+    let end = RunNumbers::from(answer.map_err(Refusal::number));
     ReducedNumbers {
         number: end.number,
         outcome: end.outcome,

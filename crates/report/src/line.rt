@@ -3,6 +3,7 @@ ghost use Rattle.std.specs.Prelude.{◌≡◌, List, ℕ, ◌*◌, ◌≤◌, le
 ghost use Rattle.report.specs.Line as spec;
 ghost use Rattle.report.specs.Line.{program_budget, program_buffer, reducer_from, runs_line, values_in};
 ghost use Rattle.report.specs.Reads.{Reads};
+ghost use Rattle.record.specs.Refusal.{refusal_number};
 ghost use Rattle.run.specs.Represents.{as_outcome, run_answer_of};
 ghost use Rattle.reducer.specs.Represents.{answer_of};
 ghost use Rattle.stepper.specs.RunStepper.{run_stepper};
@@ -26,8 +27,8 @@ const BUDGET: u32 = 1000000;
 
 // How a run ended, as the line shows it: one that was refused made no step.
 fn shown(answer: Result<RunEnd, Refusal>) -> RunEnd
-    ensures outcome { as_outcome result.outcome ≡ (run_answer_of answer).outcome }
-    ensures steps { result.steps ≡ (run_answer_of answer).steps }
+    ensures outcome { as_outcome result.outcome ≡ (run_answer_of refusal_number answer).outcome }
+    ensures steps { result.steps ≡ (run_answer_of refusal_number answer).steps }
 {
     answer.unwrap_or(RunEnd {
         outcome: Outcome::Refused,
@@ -49,7 +50,7 @@ fn used_of(filled: Result<Filled, Refusal>) -> usize
 
 // The reducer's run without its count of replaced variables.
 fn end_of(reduced: Result<Reduced, Refusal>) -> Result<RunEnd, Refusal>
-    ensures { run_answer_of result ≡ answer_of reduced }
+    ensures { run_answer_of refusal_number result ≡ answer_of reduced }
 {
     match reduced {
         Ok(reduced) => Ok(reduced.end),

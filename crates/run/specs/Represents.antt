@@ -1,7 +1,5 @@
 -- What the code's types stand for: each value of the code's Outcome and RunEnd, as a value of the specification.
 use Rattle.std.specs.Prelude.{ℕ, Result, Ok, Err}
-use Rattle.record.specs.declared.refusal.Refusal.{Refusal}
-use Rattle.record.specs.Refusal.{refusal_number}
 use Rattle.rules.specs.Run as rules
 use Rattle.run.specs.declared.Outcome.{Outcome}
 use Rattle.run.specs.declared.Outcome.TheVariants.{Finished, NoRoom, Over, Refused, Spent}
@@ -22,10 +20,10 @@ as_outcome Refused = rules.refused  -- refused: the call was not accepted
 abbrev pub as_run_answer : RunEnd → RunAnswer
 as_run_answer r = record { number = 0; outcome = as_outcome r.outcome; steps = r.steps; left = r.left; used = r.used }
 
--- The answer of a run that may be refused: how it ended, or the refusal's number.
-abbrev pub run_answer_of : Result RunEnd Refusal → RunAnswer
-run_answer_of (Ok r) = as_run_answer r
-run_answer_of (Err r) = refusal (refusal_number r)
+-- The answer of a run that may be refused: how it ended, or the refusal's number, as `number` gives it.
+abbrev pub run_answer_of : {E : Type 0} → (E → ℕ) → Result RunEnd E → RunAnswer
+run_answer_of number (Ok r) = as_run_answer r
+run_answer_of number (Err r) = refusal (number r)
 
 -- How a run ended, in numbers alone: the outcome is its number.
 abbrev pub in_numbers : RunAnswer → RunNumbers

@@ -8,8 +8,6 @@ ghost use Rattle.run.specs.Represents.{answered, as_outcome, as_run_answer, in_n
 ghost use Rattle.run.specs.RunAnswer.{outcome_number, room_reads};
 ghost use Rattle.run.specs.Tally.{advanced, ends_with, is_spent, started};
 
-use record::refusal::Refusal;
-
 #[derive(Clone, Copy)]
 pub enum Outcome {
     Finished,
@@ -111,10 +109,10 @@ pub struct RunNumbers {
     pub used: u32,
 }
 
-impl From<Result<RunEnd, Refusal>> for RunNumbers {
-    ghost from_gives = { λ answer numbers. numbers ≡ in_numbers (run_answer_of answer) };
+impl From<Result<RunEnd, u32>> for RunNumbers {
+    ghost from_gives = { λ answer numbers. numbers ≡ in_numbers (run_answer_of (λ number. number) answer) };
 
-    fn from(answer: Result<RunEnd, Refusal>) -> RunNumbers {
+    fn from(answer: Result<RunEnd, u32>) -> RunNumbers {
         match answer {
             Ok(end) => RunNumbers {
                 number: 0,
@@ -124,8 +122,8 @@ impl From<Result<RunEnd, Refusal>> for RunNumbers {
                 used: end.used,
             },
             // A refused run hands nothing back but its number.
-            Err(refusal) => RunNumbers {
-                number: refusal.number(),
+            Err(number) => RunNumbers {
+                number,
                 outcome: outcome_number(Outcome::Refused),
                 steps: 0,
                 left: 0,

@@ -3,6 +3,7 @@
 
 ghost use Rattle.std.specs.Prelude.{◌≡◌, length};
 ghost use Rattle.rules.specs.Syntax.{Block};
+ghost use Rattle.record.specs.Refusal.{refusal_number};
 ghost use Rattle.run.specs.Represents.{run_answer_of};
 ghost use Rattle.stepper.specs.RunStepper.{run_stepper};
 ghost use Rattle.stepper.specs.Running.{Accepted, Gives, accepted_run};
@@ -52,7 +53,7 @@ pub fn run_stepper(
     store: &mut [u32],
     budget: u32,
 ) -> Result<RunEnd, Refusal>
-    ensures { (run_answer_of result ≡ (run_stepper buf.old used store.old budget).answer) × (buf.new ≡ (run_stepper buf.old used store.old budget).buf) × (store.new ≡ (run_stepper buf.old used store.old budget).store) }
+    ensures { (run_answer_of refusal_number result ≡ (run_stepper buf.old used store.old budget).answer) × (buf.new ≡ (run_stepper buf.old used store.old budget).buf) × (store.new ≡ (run_stepper buf.old used store.old budget).store) }
 {
     let h = check_program(buf, used)?;
     if store.len() != h.k as usize {

@@ -16,7 +16,7 @@ use Rattle.numerals.proofs.ValuesLaws.{get_d-alike}
 use Rattle.place.proofs.AtLaws.{put_same}
 use Rattle.place.proofs.TermViewLaws.{as-num, as-ref, atom-kind}
 use Rattle.substitution.specs.Marks.{marked}
-use Rattle.substitution.specs.Path.{Left, Stepped, adding_bound}
+use Rattle.substitution.specs.Path.{Left, Onward, Stepped, adding_bound}
 use Rattle.substitution.specs.Ranged.{RangedAtom, RangedAtoms, RangedTerm}
 use Rattle.substitution.specs.declared.path.Path.{Path}
 use Rattle.substitution.specs.declared.path.Path.TheVariants.{At, Row}
@@ -97,6 +97,10 @@ marking-adding None m long low = refl
 marking-adding (Some x) m long low = marked-adding m x (let b = low x refl in omega arith)
 
 module _ {m : List Bool} {l : List ℕ} {b : Bool} {from : Path} {k : ℕ} (s : ClosedTodo m l b from k) where
+  -- where the path goes on without an atom
+  pub todo-onward : {path : Path} → ((t : Term) → Left l from k t → Onward l from path k t) → ClosedTodo m l b path k
+  todo-onward goes = let o = goes s.term s.here in record { term = o.left; here = o.here; goal = sym (o.closes (marked m)) ∙ s.goal }
+
   module _ {stop : Stop} {path : Path} (v : Stepped l from k s.term stop path) (r : Bool) (is : r ≡ closed_atom (marked m) v.atom) where
     both : (r && closed_in (adding_bound stop.binds (marked m)) v.left) ≡ b
     both = ap (λ (y : Bool). y && closed_in (adding_bound stop.binds (marked m)) v.left) is ∙ sym (v.closes (marked m)) ∙ s.goal

@@ -1,37 +1,27 @@
 -- Laws of the path of a term's free variables: what goes on without an atom, each kind of step, and the end.
-use Prim.Native.Nat.{◌+◌, ◌-◌, ◌≤◌, ℕ, suc}
+use Prim.Native.Nat.{◌+◌, ◌-◌, ℕ, suc}
 use mathlib.Core.Path.{ap, refl, subst, sym, ◌∙◌, ◌≡◌}
 use mathlib.Core.Bool.{◌&&◌, Bool}
 use mathlib.Core.List.{List, [], ◌∷◌}
 use lib.ListN.{length}
 use native.Mathlib.Omega.{arith}
-use Rattle.std.specs.Prelude.{Option, None, Some}
+use Rattle.std.specs.Prelude.{None, Some}
 use Rattle.buffer.specs.LittleEndian.{val}
 use Rattle.buffer.specs.Slice.{part}
 use Rattle.record.specs.Term.{simple_size}
 use Rattle.rules.specs.FreeVariables.{Vars, adding, atom_of_simple, closed_atom, closed_atoms, closed_in, closed_simple}
 use Rattle.rules.specs.Replaced.{replaced, replaced_atom}
-use Rattle.rules.specs.Substitution.{Substitution, substitute}
+use Rattle.rules.specs.Substitution.{substitute}
 use Rattle.rules.specs.Syntax.{Atom, Simple, Term, plain, pred_of, succ_of, tuple}
 use Rattle.rules.proofs.ReplacedLaws.{replaced-empty, replaced-let_all, replaced-let_one, replaced-rec, replaced-row, replaced-tuple}
 use Rattle.place.proofs.TermSubstitutionLaws.{onward-let_all, onward-let_one, onward-rec, onward-row, onward-tuple, row-empty}
-use Rattle.substitution.specs.Path.{Ended, Left, Stepped, left_as, place_of}
+use Rattle.substitution.specs.Path.{Ended, Left, Onward, Stepped, left_as}
 use Rattle.substitution.specs.Ranged.{RangedAtoms}
 use Rattle.substitution.specs.ValuesLeft.{values_left}
 use Rattle.substitution.specs.declared.path.Path.{Path}
 use Rattle.substitution.specs.declared.path.Path.TheVariants.{At, Row}
 use Rattle.substitution.proofs.AtomSubstitutionLaws.{atom-room}
 use Rattle.substitution.proofs.RangedLaws.{RangedLetOne, RangedRec, ranged-first, ranged-let_all, ranged-tuple}
-
--- All that is left of t at `from` is left at `to`.
-pub record Onward (l : List ℕ) (from to : Path) (k : ℕ) (t : Term) : Type 0 where
-  pub left : Term
-  pub here : Left l to k left
-  pub ahead : place_of from ≤ place_of to
-  pub closes : (S : Vars) → closed_in S t ≡ closed_in S left
-  pub counts : (f : Substitution) → replaced f t ≡ replaced f left
-  pub stores : (f : Substitution) → left_as l to (substitute f left) ≡ left_as l from (substitute f t)
-  pub leaves : (w : List (Option ℕ)) → values_left w t ≡ values_left w left
 
 pub begin : {l : List ℕ} {from : Path} {k : ℕ} {t : Term} → Left l from k t → Onward l from from k t
 begin {t = t} h = record { left = t; here = h; ahead = omega arith; closes = λ S. refl; counts = λ f. refl; stores = λ f. refl; leaves = λ w. refl }

@@ -8,7 +8,7 @@ use Rattle.rules.specs.Syntax.{Atom, Term, tuple}
 use Rattle.rules.proofs.ReplacedLaws.{replaced-tuple}
 use Rattle.record.proofs.SizeLaws.{replaced-most}
 use Rattle.place.proofs.TermViewLaws.{term-room}
-use Rattle.substitution.specs.Path.{Left, Stepped, except_bound, left_as, unset}
+use Rattle.substitution.specs.Path.{Left, Onward, Stepped, except_bound, left_as, unset}
 use Rattle.substitution.specs.Ranged.{RangedAtoms, RangedTerm}
 use Rattle.substitution.specs.ValuesLeft.{values_left}
 use Rattle.substitution.specs.declared.path.Path.{Path}
@@ -42,6 +42,12 @@ unset-except (Some x) w long low = values-except w x (let b = low x refl in omeg
 module _ {w : List (Option ℕ)} {l : List ℕ} {from : Path} {k : ℕ} {to : List ℕ} {n total : ℕ} {end : List (Option ℕ)} (s : Todo w l from k to n total end) where
   abbrev f : Substitution
   f = substitution_of w
+
+  -- where the path goes on without an atom
+  pub todo-onward : {path : Path} → ((t : Term) → Left l from k t → Onward l from path k t) → Todo w l path k to n total end
+  todo-onward goes =
+      let o = goes s.term s.here in
+      record { term = o.left; here = o.here; goal = o.stores f ∙ s.goal; count = omega (arith, o.counts f, s.count); leaves = sym (o.leaves w) ∙ s.leaves }
 
   module _ {stop : Stop} {path : Path} (v : Stepped l from k s.term stop path) (m : ℕ) (is : m ≡ replaced_atom f v.atom) where
     pub todo-most : n + m ≤ total

@@ -1,6 +1,7 @@
 -- The path of a term's free variables: what is left of it, and a step along it.
 use Rattle.std.specs.Prelude.{ℕ, ◌+◌, ◌≡◌, ◌<◌, ◌≤◌, ◌&&◌, true, List, [], Option, None, Some, length, set}
-use Rattle.buffer.specs.Slice.{put}
+use Rattle.buffer.specs.LittleEndian.{val}
+use Rattle.buffer.specs.Slice.{part, put}
 use Rattle.record.specs.Term.{encode_atom, encode_atoms, encode_term_record}
 use Rattle.rules.specs.FreeVariables.{Vars, adding, closed_atom, closed_in}
 use Rattle.rules.specs.Replaced.{replaced, replaced_atom}
@@ -49,6 +50,21 @@ abbrev pub unset : Option ℕ → List (Option ℕ) → List (Option ℕ)
 unset None w = w
 unset (Some x) w = set w x None
 
+-- All that is left of t at `from` is left at `to`.
+pub record Onward (l : List ℕ) (from to : Path) (k : ℕ) (t : Term) : Type 0 where
+  pub left : Term
+  pub here : Left l to k left
+  pub ahead : place_of from ≤ place_of to
+  pub closes : (S : Vars) → closed_in S t ≡ closed_in S left
+  pub counts : (f : Substitution) → replaced f t ≡ replaced f left
+  pub stores : (f : Substitution) → left_as l to (substitute f left) ≡ left_as l from (substitute f t)
+  pub leaves : (w : List (Option ℕ)) → values_left w t ≡ values_left w left
+
+-- There the path comes to an atom, or to its row: no let-all stands there and no tuple.
+abbrev pub Settled : List ℕ → Path → Type 0
+Settled l (At p) = (val (part l (p + 2) 2) ≡ 36 → ⊥) × (val (part l (p + 2) 2) ≡ 38 → ⊥)
+Settled l (Row p n) = Unit {0}
+
 -- A step from where t is left: an atom stands at the stop, and no variable is free in t but in that atom and in what is left then.
 pub record Stepped (l : List ℕ) (from : Path) (k : ℕ) (t : Term) (stop : Stop) (path : Path) : Type 0 where
   pub atom : Atom
@@ -70,8 +86,3 @@ pub record Ended (l : List ℕ) (from : Path) (t : Term) : Type 0 where
   pub counts : (f : Substitution) → replaced f t ≡ 0
   pub stores : (f : Substitution) → l ≡ left_as l from (substitute f t)
   pub leaves : (w : List (Option ℕ)) → values_left w t ≡ w
-
--- What the next stop says of the term t that was left.
-abbrev pub Next : List ℕ → Path → ℕ → Term → Option Stop → Path → Type 0
-Next l from k t None path = Ended l from t
-Next l from k t (Some stop) path = Stepped l from k t stop path

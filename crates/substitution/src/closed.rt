@@ -7,7 +7,7 @@ ghost use Rattle.rules.specs.Syntax.{Atom, Term};
 ghost use Rattle.substitution.specs.Marks.{marked};
 ghost use Rattle.substitution.specs.Ranged.{RangedAtom, RangedAtoms, RangedTerm};
 
-use crate::path::Path;
+use crate::path::{Path, step};
 use buffer::get_u32;
 use numerals::values::SLOTS;
 use record::Header;
@@ -42,18 +42,19 @@ fn closed_at(buf: &[u8], at: usize, k: u32) -> bool
     let mut bound = [false; SLOTS];
     let mut path = Path::At(at);
     loop {
-        // The tuple in which it ends: its atoms one after the other, with no look at the path between them.
-        if let Path::Row(row, n) = path {
-            return closed_atoms(buf, row, n, &bound);
-        }
-        let Some(stop) = path.next(buf, k) else {
-            return true;
-        };
-        if !closed_atom(buf, stop.at, &bound) {
-            return false;
-        }
-        if let Some(x) = stop.binds {
-            bound[x] = true;
+        match path.onward(buf, k) {
+            // The tuple in which it ends: its atoms one after the other, with no look at the path between them.
+            Path::Row(row, n) => return closed_atoms(buf, row, n, &bound),
+            Path::At(p) => {
+                let (stop, next) = step(buf, p);
+                if !closed_atom(buf, stop.at, &bound) {
+                    return false;
+                }
+                if let Some(x) = stop.binds {
+                    bound[x] = true;
+                }
+                path = Path::At(next);
+            }
         }
     }
 }

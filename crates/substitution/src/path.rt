@@ -5,7 +5,9 @@ ghost use Rattle.std.specs.Prelude.{◌≡◌, ℕ, ◌+◌};
 ghost use Rattle.place.specs.TermView.{LetOneView};
 ghost use Rattle.record.specs.Term.{simple_size};
 ghost use Rattle.rules.specs.Syntax.{Term};
-ghost use Rattle.substitution.specs.Path.{Left, Next};
+ghost use Rattle.substitution.specs.Path.{Left, Onward, Settled, Stepped};
+ghost use Rattle.substitution.specs.Ranged.{RangedTerm};
+ghost use Rattle.substitution.specs.declared.path.Path.TheVariants.{At};
 
 use buffer::get_u32;
 use record::kind::Kind;
@@ -36,39 +38,40 @@ fn bound_atom(buf: &[u8], p: usize) -> usize
 }
 
 impl Path {
-    // The next atom; the tuples are of k atoms.
-    pub fn next(&mut self, buf: &[u8], k: u32) -> Option<Stop>
-        requires { (t : Term) × Left buf.now self.old k t }
-        ensures { (t : Term) → Left buf.now self.old k t → Next buf.now self.old k t result self.new }
+    // Past let-alls and into the tuple in which it ends: what comes then is an atom, or the row. The tuples are of k atoms.
+    pub fn onward(self, buf: &[u8], k: u32) -> Path
+        requires { (t : Term) × Left buf.now self k t }
+        ensures goes { (t : Term) → Left buf.now self k t → Onward buf.now self result k t }
+        ensures settled { Settled buf.now result }
     {
+        let mut path = self;
         loop {
-            match *self {
-                Path::Row(at, n) => {
-                    if n == 0 {
-                        return None;
-                    }
-                    *self = Path::Row(at + 8, n - 1);
-                    return Some(Stop { at, binds: None });
-                }
+            match path {
+                Path::Row(_, _) => return path,
                 Path::At(p) => match Kind::read(buf, p + 2) {
-                    Kind::Tuple => *self = Path::Row(p + 4, k as usize),
-                    Kind::LetAll => *self = Path::At(p + 4),
-                    Kind::LetOne => {
-                        let at = bound_atom(buf, p);
-                        let x = get_u32(buf, p + 4) as usize;
-                        *self = Path::At(at + 8);
-                        return Some(Stop { at, binds: Some(x) });
-                    }
-                    // A rec: its count, and its start tuple.
-                    _ => {
-                        *self = Path::At(p + 16);
-                        return Some(Stop {
-                            at: p + 8,
-                            binds: None,
-                        });
-                    }
+                    Kind::Tuple => return Path::Row(p + 4, k as usize),
+                    Kind::LetAll => path = Path::At(p + 4),
+                    _ => return path,
                 },
             }
         }
     }
+}
+
+// The atom at which the path comes to the let-one or the rec at p, and where it goes on.
+pub fn step(buf: &[u8], p: usize) -> (Stop, usize)
+    requires { (k : ℕ) × (t : Term) × RangedTerm buf.now p k t × Settled buf.now (At p) }
+    ensures { (k : ℕ) (t : Term) → RangedTerm buf.now p k t → Stepped buf.now (At p) k t result.0 (At result.1) }
+{
+    if let Kind::LetOne = Kind::read(buf, p + 2) {
+        let at = bound_atom(buf, p);
+        let x = get_u32(buf, p + 4) as usize;
+        return (Stop { at, binds: Some(x) }, at + 8);
+    }
+    // A rec: its count, and its start tuple.
+    let stop = Stop {
+        at: p + 8,
+        binds: None,
+    };
+    (stop, p + 16)
 }

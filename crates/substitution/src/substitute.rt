@@ -14,7 +14,7 @@ ghost use Rattle.substitution.specs.Ranged.{RangedAtom, RangedAtoms, RangedTerm}
 ghost use Rattle.substitution.specs.ValuesLeft.{values_left};
 ghost use Rattle.numerals.specs.Values.{substitution_of};
 
-use crate::path::Path;
+use crate::path::{Path, step};
 use buffer::{get_u32, put_u16, put_u32, zero};
 use numerals::values::{SLOTS, Values, put_store};
 use record::Header;
@@ -46,7 +46,8 @@ fn substitute_atoms(buf: &mut [u8], at: usize, count: usize, values: &Values) ->
 }
 
 // A let-one binds its variable in its last term, so there that variable stays: the array goes along with the path, and is lent since one
-// handed over is copied, which takes a call of the C library's.
+// handed over is copied, which takes a call of the C library's. So it would be where this is inlined; the hint promises nothing.
+#[inline(never)]
 pub fn substitute_along(buf: &mut [u8], at: usize, k: u32, values: &mut Values) -> usize
     requires { (t : Term) × RangedTerm buf.old at k t }
     ensures substitutes { (t : Term) → RangedTerm buf.old at k t → (buf.new ≡ put buf.old at (encode_term_record (substitute (substitution_of values.old) t))) × (result ≡ replaced (substitution_of values.old) t) }
@@ -55,16 +56,17 @@ pub fn substitute_along(buf: &mut [u8], at: usize, k: u32, values: &mut Values) 
     let mut replaced = 0;
     let mut path = Path::At(at);
     loop {
-        // The tuple in which it ends: its atoms one after the other, with no look at the path between them.
-        if let Path::Row(row, n) = path {
-            return replaced + substitute_atoms(buf, row, n, values);
-        }
-        let Some(stop) = path.next(buf, k) else {
-            return replaced;
-        };
-        replaced += substitute_atom(buf, stop.at, values);
-        if let Some(x) = stop.binds {
-            values[x] = None;
+        match path.onward(buf, k) {
+            // The tuple in which it ends: its atoms one after the other, with no look at the path between them.
+            Path::Row(row, n) => return replaced + substitute_atoms(buf, row, n, values),
+            Path::At(p) => {
+                let (stop, next) = step(buf, p);
+                replaced += substitute_atom(buf, stop.at, values);
+                if let Some(x) = stop.binds {
+                    values[x] = None;
+                }
+                path = Path::At(next);
+            }
         }
     }
 }

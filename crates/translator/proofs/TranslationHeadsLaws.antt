@@ -15,7 +15,7 @@ use Rattle.record.specs.Front.{u16, u32}
 use Rattle.record.specs.declared.kind.Kind.{Kind}
 use Rattle.record.specs.declared.kind.Kind.TheVariants.{Literal, Variable}
 use Rattle.record.specs.Kind.{kind_named}
-use Rattle.record.proofs.KindLaws.{named-number, not-number}
+use Rattle.record.proofs.KindLaws.{in_term-number, named-number, not-number, number-named}
 use Rattle.place.specs.Edit.{lead, leaf_bytes}
 use Rattle.place.specs.Heads.{record_head}
 use Rattle.place.proofs.EditLaws.{length-lead}
@@ -39,6 +39,9 @@ kind-high e a b low = omega (arith, low, not-number Literal tt e a, not-number V
 length-lead_of : (kind n : ℕ) (l : List ℕ) (p : ℕ) → length (lead_of kind n l p) ≡ 16
 unfolding lead_of
 length-lead_of kind n l p = length-lead kind n (u32 l (p + 4)) (u16 l (p + 10) + 16) (u32 l (p + 12))
+
+-- The number of an atom's kind, whether the kind is that of an expression in the term or is named by a number.
+pub ruleset atom_kinds = (in_term-number, number-named)
 
 pub lead-reads : (l : List ℕ) (p kind n x leaf v : ℕ) → x ≡ u32 l (p + 4) → leaf ≡ u16 l (p + 10) + 16 → v ≡ u32 l (p + 12)
     → lead kind n x leaf v ≡ lead_of kind n l p

@@ -96,6 +96,15 @@ fn write_tuple(out: &mut [u8], o: usize, k: u32)
     }
 }
 
+// The kind of the atom that the expression, or the bound, at a place becomes.
+#[tactic(auto, using(crate::proofs::TranslationHeadsLaws::atom_kinds))]
+fn atom_kind(src: &[u8], at: usize) -> Kind
+    requires { (at + 2 ≤ length src.now) × (16 ≤ u16 src.now at) × (u16 src.now at ≤ 19) }
+    ensures { kind_number result ≡ u16 src.now at + 16 }
+{
+    Kind::read_expression(src, at).in_term()
+}
+
 // What a let-one of an atom, or a rec, begins with, of the assignment or the loop at `at`. Each number is one move; a copy of
 // the bytes would go one by one. Put in at both its calls, it spares each let-one an instruction.
 #[inline(always)]
@@ -104,7 +113,7 @@ fn write_lead(src: &[u8], at: usize, out: &mut [u8], o: usize, kind: Kind, n: us
     ensures { out.new ≡ put out.old o (lead_of (kind_number kind) n src.now at) }
 {
     let x = buffer::get_u32(src, at + 4);
-    let leaf = Kind::read_expression(src, at + 10).in_term();
+    let leaf = atom_kind(src, at + 10);
     let v = buffer::get_u32(src, at + 12);
     put_lead(out, o, kind, n, x, leaf, v);
 }

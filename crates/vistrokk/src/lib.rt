@@ -23,7 +23,7 @@ ghost use Rattle.term.specs.Calls.{read_back_call, result_call, substitute_call,
 ghost use Rattle.weighing.specs.Weigh.{weigh_call};
 
 use conversion::convert;
-use record::refusal::number_of;
+use record::refusal::{Refusal, number_of};
 use record::{Conversion, Sort};
 
 #[unsafe(no_mangle)]
@@ -88,7 +88,9 @@ pub extern "C" fn vistrokk_run_stepper(
 ) -> run::RunNumbers
     ensures { (result ≡ in_numbers (run_stepper buf.old used store.old budget).answer) × (buf.new ≡ (run_stepper buf.old used store.old budget).buf) × (store.new ≡ (run_stepper buf.old used store.old budget).store) }
 {
-    stepper::run_stepper(buf, used, store, budget).into()
+    stepper::run_stepper(buf, used, store, budget)
+        .map_err(Refusal::number)
+        .into()
 }
 
 #[unsafe(no_mangle)]

@@ -1,7 +1,6 @@
 use native.Mathlib.Omega.{arith}
 use mathlib.Core.Path.{ap, ◌∙◌, sym}
 use Rattle.place.proofs.ProgramNumberLaws.{bound-variable}
-use Rattle.record.specs.declared.kind.Kind.TheVariants.{Literal}
 use Rattle.record.proofs.KindLaws.{named-number, not-number}
 use Rattle.bound_check.specs.Marks.{marked}
 use Rattle.command.proofs.LookLaws.{loop-read}
@@ -21,7 +20,7 @@ pub bounds-marks-get_u32 : goal.bounds-marks-get_u32
 bounds-marks-get_u32 c =
     let p = c.requires.1.1.1.1 in
     let v = loop-read p.0 in
-    let w = bound-variable 16 c.requires.1.0 (λ e. not-number Literal tt c.read.ensures c.in_default.not-Literal (v.kind ∙ e)) p.1 in
+    let w = bound-variable 16 c.requires.1.0 (λ e. not-number _ tt c.read.ensures c.in_default.not-Literal (v.kind ∙ e)) p.1 in
     omega (arith, w, v.number, c.get_u32.ensures)
 
 pub returns-in_default : goal.returns-in_default
@@ -29,4 +28,4 @@ unfolding marked
 returns-in_default c =
     λ x m b r h.
     let v = loop-read h in
-    ap (marked c.args.marks.now) (c.get_u32.ensures ∙ v.number) ∙ bound-held (marked c.args.marks.now) m (λ e. not-number Literal tt c.read.ensures c.in_default.not-Literal (v.kind ∙ e))
+    ap (marked c.args.marks.now) (c.get_u32.ensures ∙ v.number) ∙ bound-held (marked c.args.marks.now) m (λ e. not-number _ tt c.read.ensures c.in_default.not-Literal (v.kind ∙ e))

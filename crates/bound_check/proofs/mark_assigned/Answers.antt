@@ -1,11 +1,10 @@
-use native.Mathlib.Omega.{arith}
-use mathlib.Core.Path.{refl}
+use Rattle.std.proofs.Common.{arith, refl, rules}
 use Rattle.bound_check.proofs.MarkLaws.{mark-end, mark-named, mark-nameless, mark-variable}
 use Rattle.bound_check.proofs.mark_assigned.Goals as goal
 
 pub loop-at-preserved-in-Block : goal.loop-at-preserved-in-Block
 loop-at-preserved-in-Block c =
-    (c.in-Some.ensures.goes.keeps, tt, λ k b f h. mark-nameless (c.loop-at.invariant.2 k b f h) c.in-Some.ensures.steps c.in-Block.is)
+    (c.in-Some.ensures.goes.keeps, tt, λ k b f h. mark-nameless (c.loop-at.invariant.2 k b f h) c.in-Some.ensures.steps (search (rules, c.in-Block.is)))
 
 pub get_u32-requires : goal.get_u32-requires
 get_u32-requires c =

@@ -2,7 +2,6 @@
 use Rattle.std.proofs.Common.{ap, sym, ◌∙◌, ℕ, eqb, arith}
 use borrow.Author.Tests.{ne_false}
 use Rattle.record.proofs.KindLaws.{named-number, not-number}
-use Rattle.record.specs.declared.kind.Kind.TheVariants.{Tuple}
 use Rattle.place.proofs.WholeLaws.{term-at, term-from}
 use Rattle.place.proofs.NumeralsLaws.{finished-read}
 use Rattle.place.proofs.TermViewLaws.{term-room}
@@ -22,4 +21,4 @@ returns-in-Tuple c =
 
 pub returns-in_default : goal.returns-in_default
 returns-in_default c =
-    λ t h. ne_false _ _ (not-number Tuple tt c.read.ensures c.in_default.not-Tuple) ∙ finished-read (term-from h c.requires.1 c.contents_at.ensures)
+    λ t h. ne_false _ _ (not-number _ tt c.read.ensures c.in_default.not-Tuple) ∙ finished-read (term-from h c.requires.1 c.contents_at.ensures)

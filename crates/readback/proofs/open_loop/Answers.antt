@@ -5,7 +5,6 @@ use Rattle.buffer.specs.Slice.{put}
 use Rattle.place.specs.Edit.{lead}
 use Rattle.place.specs.Heads.{record_head}
 use Rattle.record.specs.Kind.{kind_number}
-use Rattle.record.proofs.KindLaws.{in_program-number}
 use Rattle.buffer.proofs.StoresLaws.{stores-2}
 use Rattle.place.proofs.EditLaws.{length-lead}
 use Rattle.readback.proofs.PieceLaws.{rec-bytes, rec-room}
@@ -16,8 +15,8 @@ get_u32-x-requires c =
     let q = c.requires.0 in
     omega (arith, rec-room q.1 q.2 q.3 q.4)
 
-pub read_atom-requires : goal.read_atom-requires
-read_atom-requires c =
+pub bound_kind-bound-requires : goal.bound_kind-bound-requires
+bound_kind-bound-requires c =
     let q = c.requires.0 in
     omega (arith, rec-room q.1 q.2 q.3 q.4)
 
@@ -30,9 +29,7 @@ pub returns : goal.returns
 returns c =
     λ k x n b h.
     let a = c.args in
-    let room = rec-room x n b h in
-    let bound = ap kind_number c.in_program-bound.ensures ∙ in_program-number c.read_atom.ensures room.1 room.2 in
-    let kind = kind_number c.in_program-bound.result in
+    let kind = kind_number c.bound_kind-bound.result in
     let l = lead 3 a.head c.get_u32-x.result kind c.get_u32-v.result in
     stores-2 a.out.now _ _ l (record_head 1 0) a.o (a.o + 16) c.put_lead.ensures c.put_head.ensures (ap (λ (y : ℕ). a.o + y) (length-lead 3 a.head c.get_u32-x.result kind c.get_u32-v.result)) (omega (arith, c.requires.1))
-    ∙ ap (put a.out.now a.o) (rec-bytes x n b h c.get_u32-x.result kind c.get_u32-v.result a.head 0 c.get_u32-x.ensures bound c.get_u32-v.ensures)
+    ∙ ap (put a.out.now a.o) (rec-bytes x n b h c.get_u32-x.result kind c.get_u32-v.result a.head 0 c.get_u32-x.ensures c.bound_kind-bound.ensures c.get_u32-v.ensures)

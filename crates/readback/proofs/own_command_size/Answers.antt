@@ -1,6 +1,5 @@
 use native.Mathlib.Omega.{arith}
 use mathlib.Core.Path.{sym}
-use Rattle.record.specs.declared.kind.Kind.TheVariants.{LetAll, LetOne, Rec, Tuple}
 use Rattle.record.proofs.KindLaws.{named-number, not-number}
 use Rattle.readback.proofs.CommandLaws.{command-let_one, command-loop, command-nest, command-rec, command-tuple, first-room}
 use Rattle.recognition.proofs.ScanLaws.{kind-left, kind-room}
@@ -23,8 +22,8 @@ returns-in-Rec c = λ k t h. sym (command-loop h (named-number c.in-LetAll.ensur
 
 pub returns-in_default-read : goal.returns-in_default-read
 returns-in_default-read c =
-    λ k t h. sym (command-nest h (named-number c.in-LetAll.ensures) (not-number Rec tt c.read-in-LetAll.ensures c.in_default-read.not-Rec))
+    λ k t h. sym (command-nest h (named-number c.in-LetAll.ensures) (not-number _ tt c.read-in-LetAll.ensures c.in_default-read.not-Rec))
 
 pub returns-in_default : goal.returns-in_default
 returns-in_default c =
-    λ k t h. sym (command-rec h (kind-left h (not-number Tuple tt c.read.ensures c.in_default.not-Tuple) (not-number LetOne tt c.read.ensures c.in_default.not-LetOne) (not-number LetAll tt c.read.ensures c.in_default.not-LetAll)))
+    λ k t h. sym (command-rec h (kind-left h (not-number _ tt c.read.ensures c.in_default.not-Tuple) (not-number _ tt c.read.ensures c.in_default.not-LetOne) (not-number _ tt c.read.ensures c.in_default.not-LetAll)))

@@ -1,7 +1,6 @@
 use native.Mathlib.Omega.{arith}
 use mathlib.Core.Path.{sym, ◌∙◌}
 use borrow.Author.Tests.{eq-eqb, ne_eqb}
-use Rattle.record.specs.declared.kind.Kind.TheVariants.{LetAll, LetOne, Reference, Tuple}
 use Rattle.record.proofs.KindLaws.{named-number, not-number}
 use Rattle.place.proofs.TermViewLaws.{as-rec, as-tuple, simple-kind}
 use Rattle.recognition.proofs.RecognitionLaws.{legal-alone, legal-atom, legal-let_all, legal-of, legal-rec, legal-room, legal-tuple}
@@ -47,7 +46,7 @@ returns-in_default-matches c =
     let e = named-number c.in-LetOne.ensures in
     let d = c.in_default-read_atom in
     λ t h.
-    sym (ne_eqb _ 33 (not-number Reference tt c.read-in_default-read_atom.ensures c.in_default-matches.not-Reference))
+    sym (ne_eqb _ 33 (not-number _ tt c.read-in_default-read_atom.ensures c.in_default-matches.not-Reference))
     ∙ legal-of h c.args.first e (of-high h e c.read_atom.ensures d.not-Numeral d.not-Reference)
 
 pub returns-in-LetAll : goal.returns-in-LetAll
@@ -58,7 +57,7 @@ is_all-requires-then-first c =
     let d = c.in_default in
     let none = c.read.ensures in
     let h = c.requires.0.1 in
-    let v = as-rec h (kind-left h (not-number Tuple tt none d.not-Tuple) (not-number LetOne tt none d.not-LetOne) (not-number LetAll tt none d.not-LetAll)) in
+    let v = as-rec h (kind-left h (not-number _ tt none d.not-Tuple) (not-number _ tt none d.not-LetOne) (not-number _ tt none d.not-LetAll)) in
     ((v.start, v.row, v.start-length), c.requires.1)
 
 pub returns-then-first : goal.returns-then-first
@@ -66,7 +65,7 @@ returns-then-first c =
     let d = c.in_default in
     let none = c.read.ensures in
     λ t h.
-    let e = kind-left h (not-number Tuple tt none d.not-Tuple) (not-number LetOne tt none d.not-LetOne) (not-number LetAll tt none d.not-LetAll) in
+    let e = kind-left h (not-number _ tt none d.not-Tuple) (not-number _ tt none d.not-LetOne) (not-number _ tt none d.not-LetAll) in
     legal-rec h c.args.first e c.if-first.true c.is_all-then-first.result c.is_all-then-first.ensures
 
 pub returns-else-first : goal.returns-else-first
@@ -74,5 +73,5 @@ returns-else-first c =
     let d = c.in_default in
     let none = c.read.ensures in
     λ t h.
-    let e = kind-left h (not-number Tuple tt none d.not-Tuple) (not-number LetOne tt none d.not-LetOne) (not-number LetAll tt none d.not-LetAll) in
+    let e = kind-left h (not-number _ tt none d.not-Tuple) (not-number _ tt none d.not-LetOne) (not-number _ tt none d.not-LetAll) in
     c.if-first.false ∙ legal-alone h c.args.first e c.if-first.false

@@ -1,7 +1,6 @@
 use mathlib.Core.Path.{◌∙◌}
 use Rattle.std.proofs.Common.{arith}
 use Rattle.record.proofs.KindLaws.{named-number, not-number}
-use Rattle.record.specs.declared.kind.Kind.TheVariants.{Numeral, Pred}
 use Rattle.redex.proofs.LookLaws.{let-atom, let-pred, let-succ, one-room}
 use Rattle.rules.specs.Store.{up_to}
 use Rattle.redex.proofs.look_let_one.Goals as goal
@@ -37,4 +36,4 @@ pub returns-in_default : goal.returns-in_default
 returns-in_default c =
     λ k t h s.
     c.raise.ensures
-    ∙ let-succ h c.requires.1 s (up_to c.args.largest) c.args.place.levels c.get_u32-variable.result c.get_u32-variable.ensures (not-number Numeral tt c.read.ensures c.in_default.not-Numeral) (not-number Pred tt c.read.ensures c.in_default.not-Pred) c.get_u32-in_default.result c.get_u32-in_default.ensures
+    ∙ let-succ h c.requires.1 s (up_to c.args.largest) c.args.place.levels c.get_u32-variable.result c.get_u32-variable.ensures (not-number _ tt c.read.ensures c.in_default.not-Numeral) (not-number _ tt c.read.ensures c.in_default.not-Pred) c.get_u32-in_default.result c.get_u32-in_default.ensures

@@ -2,12 +2,10 @@
 use mathlib.Core.Path.{ap, ◌∙◌}
 use Rattle.buffer.specs.Slice.{put}
 use Rattle.record.specs.Kind.{kind_number}
-use Rattle.record.proofs.KindLaws.{in_term-number}
 use Rattle.translator.proofs.TranslationHeadsLaws.{lead-reads}
 use Rattle.translator.proofs.write_lead.Goals as goal
 
 pub returns : goal.returns
 returns c =
     let a = c.args in
-    let leaf = ap kind_number c.in_term-leaf.ensures ∙ in_term-number c.read_expression.ensures c.requires.1 c.requires.2 in
-    c.put_lead.ensures ∙ ap (put a.out.now a.o) (lead-reads a.src.now a.at (kind_number a.kind) a.n _ _ _ c.get_u32-x.ensures leaf c.get_u32-v.ensures)
+    c.put_lead.ensures ∙ ap (put a.out.now a.o) (lead-reads a.src.now a.at (kind_number a.kind) a.n _ _ _ c.get_u32-x.ensures c.atom_kind-leaf.ensures c.get_u32-v.ensures)

@@ -8,6 +8,6 @@ loop-i-preserved g c = λ vs h e.
     let b : c.loop-i.i < length vs = omega arith in
     let n : c.value.result ≡ get_or vs c.loop-i.i 0 = e _ _ b c.value.ensures in
     let k = c.loop-i.invariant vs h e in
-    let p = take_more_set c.loop-i.slots c.loop-i.i (Some c.value.result) (omega arith) in
+    let p = take_more_set c.loop-i.slots c.loop-i.i c.set.result (omega arith) in
     let q = map_more Some vs c.loop-i.i 0 b in
     cc

@@ -4,4 +4,4 @@ use Rattle.numerals.proofs.values.only.Goals as goal
 
 pub returns : goal.returns
 unfolding blank
-returns c = values-only _ _ c.requires
+returns c = rw c.set.ensures (values-only _ _ c.requires)

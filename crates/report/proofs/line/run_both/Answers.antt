@@ -8,6 +8,7 @@ use Rattle.report.specs.Line.{program_budget, program_buffer}
 use Rattle.term.specs.Answer.{substituted_of}
 use Rattle.reducer.specs.Represents.{answer_of}
 use Rattle.reducer.specs.RunReducer.{run_reducer}
+use Rattle.record.specs.Refusal.{refusal_number}
 use Rattle.run.specs.Represents.{as_run_answer, run_answer_of}
 use Rattle.run.specs.RunAnswer.{RunAnswer}
 use Rattle.report.proofs.line.run_both.Goals as goal
@@ -21,7 +22,7 @@ pub returns : goal.returns
 unfolding program_budget
 returns c =
     let b = c.substitute.new.buf in
-    let stepped = run_answer_of c.run_stepper-stepper.result in
+    let stepped = run_answer_of refusal_number c.run_stepper-stepper.result in
     let reduced = answer_of c.run_reducer-reducer.result in
     let lent = ap₂ (λ (w : List ℕ) (u : ℕ). (run_reducer w u program_budget).answer) (sym (substituted-written c.substitute.result b)) (c.used_of-filled.ensures b) in (
       c.put_ran.ensures.0

@@ -8,4 +8,4 @@ pub returns-then-entry-eq2 : goal.returns-then-entry-eq2
 returns-then-entry-eq2 c = top-loop c.args.largest _ _ c.if-entry-eq2.true
 
 pub returns-else-entry-eq2 : goal.returns-else-entry-eq2
-returns-else-entry-eq2 c = ne_eqb _ 2 c.if-entry-eq2.false ∙ top-none c.args.largest _ _ c.if-entry-eq2.false
+returns-else-entry-eq2 c = ne_eqb _ _ c.if-entry-eq2.false ∙ top-none c.args.largest _ _ c.if-entry-eq2.false

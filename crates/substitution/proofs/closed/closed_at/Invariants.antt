@@ -7,11 +7,11 @@ use Rattle.substitution.specs.Ranged.{RangedTerm}
 use Rattle.substitution.proofs.ClosedLaws.{ClosedTodo}
 use Rattle.substitution.proofs.closed.closed_at.Given as goal
 
-abbrev pub invariant-loop-path : goal.invariant-loop-path
-invariant-loop-path l = record {
+abbrev pub invariant-loop-row : goal.invariant-loop-row
+invariant-loop-row l = record {
   long : length l.bound ≡ 17;
   todo : (t : Term) → RangedTerm l.buf l.at l.k t → ClosedTodo l.bound l.buf (closed t) l.path l.k;
 }
 
-abbrev pub decreases-loop-path : goal.decreases-loop-path
-decreases-loop-path l = length l.buf - place_of l.path
+abbrev pub decreases-loop-row : goal.decreases-loop-row
+decreases-loop-row l = length l.buf - place_of l.path

@@ -13,12 +13,12 @@ use Rattle.numerals.specs.Values.{substitution_of}
 use Rattle.substitution.proofs.SubstituteAtLaws.{Todo}
 use Rattle.substitution.proofs.substitute.substitute_along.Given as goal
 
-abbrev pub invariant-loop-path : goal.invariant-loop-path
-invariant-loop-path l = record {
+abbrev pub invariant-loop-row : goal.invariant-loop-row
+invariant-loop-row l = record {
   long : length l.values ≡ 17;
   todo :
       (t : Term) → RangedTerm l.initial.buf l.at l.k t → Todo l.values l.buf l.path l.k (put l.initial.buf l.at (encode_term_record (substitute (substitution_of l.initial.values) t))) l.replaced (replaced_of (substitution_of l.initial.values) t) (values_left l.initial.values t);
 }
 
-abbrev pub decreases-loop-path : goal.decreases-loop-path
-decreases-loop-path l = length l.buf - place_of l.path
+abbrev pub decreases-loop-row : goal.decreases-loop-row
+decreases-loop-row l = length l.buf - place_of l.path
