@@ -1,6 +1,6 @@
 -- A turn of each loop that writes a part of the line: what is still to be written into the slice as it is now gives what was
 -- to be written at first.
-use Prim.Native.Nat.{◌%◌, ◌+◌, ◌/◌, ◌<◌, ◌≤◌, ℕ}
+use Prim.Native.Nat.{◌%◌, ◌+◌, ◌-◌, ◌/◌, ◌<◌, ◌≤◌, ℕ}
 use mathlib.Core.Path.{◌≡◌, ap, refl, sym, ◌∙◌}
 use mathlib.Core.List.{◌++◌, List, [], ◌∷◌, append_assoc}
 use native.Mathlib.Omega.{arith}
@@ -14,7 +14,7 @@ use Rattle.rules.specs.Run.{refused}
 use Rattle.run.specs.RunAnswer.{RunAnswer}
 use Rattle.print.specs.Decimal.{decimal, digit}
 use Rattle.print.specs.Words.{outcome_word, ran_line, refused_line, spaced, spaced_all}
-use Rattle.print.proofs.DecimalLaws.{decimal-large, decimal-small, digits-large, digits-small}
+use Rattle.print.proofs.DecimalLaws.{decimal-large, decimal-small, digits_more, digits_one, digits-large, digits-small, digits-some}
 
 -- The last digit of n is written, those of n / 10 in front of it are still to be.
 pub digit-turn : (l : List ℕ) (at place n : ℕ) → 10 ≤ n → place + 1 ≡ at + length (decimal n) → place < length l
@@ -34,6 +34,31 @@ digit-last l at place n h e b =
     let k = digits-small n h in
     let p : place ≡ at = omega arith in
     put-sets l place ((48 + n) ∷ []) (omega arith) ∙ ap (λ (j : ℕ). put l j ((48 + n) ∷ [])) p ∙ ap (put l at) (sym (decimal-small n h))
+
+-- What stands before a turn of the loop that writes the digits into l from the last on, down to `place`: left is still to be written,
+-- and all is what the loop makes.
+pub record Written (at place left : ℕ) (l all : List ℕ) : Type 0 where
+  pub more : at < place → (place ≡ at + length (decimal left)) × (put l at (decimal left) ≡ all)
+  pub done : place ≤ at → l ≡ all
+
+pub written_turn : (at place left : ℕ) (l all : List ℕ) → at < place → place ≤ length l → Written at place left l all
+    → Written at (place - 1) (left / 10) (set l (place - 1) (48 + left % 10)) all
+written_turn at place left l all h b w =
+    let m = w.more h in
+    record {
+      more = λ p.
+          let s = digits_more left (omega (arith, m.0)) in
+          let k = digits-large left s in
+          (omega (arith, m.0), digit-turn l at (place - 1) left s (omega (arith, m.0)) (omega arith) ∙ m.1);
+      done = λ p.
+          let s = digits_one left (omega (arith, m.0)) in
+          let k = digits-small left s in
+          let r : left % 10 ≡ left = omega arith in
+          rw r (digit-last l at (place - 1) left s (omega (arith, m.0)) (omega arith) ∙ m.1);
+    }
+
+pub written_none : (at place n : ℕ) (l : List ℕ) → place ≡ at + length (decimal n) → Written at place n l (put l at (decimal n))
+written_none at place n l e = record { more = λ p. (e, refl); done = λ p. absurd (omega (arith, digits-some n)) }
 
 -- A space and the number behind it.
 pub spaced-put : (l : List ℕ) (at n : ℕ) → at < length l → put (set l at 32) (at + 1) (decimal n) ≡ put l at (spaced n)
