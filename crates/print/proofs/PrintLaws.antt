@@ -60,6 +60,15 @@ written_turn at place left l all h b w =
 pub written_none : (at place n : ℕ) (l : List ℕ) → place ≡ at + length (decimal n) → Written at place n l (put l at (decimal n))
 written_none at place n l e = record { more = λ p. (e, refl); done = λ p. absurd (omega (arith, digits-some n)) }
 
+-- The digit that is left when the loop is done, at the first place.
+pub written_last : (at place left : ℕ) (l all : List ℕ) → at < place → place ≤ at + 1 → at < length l → Written at place left l all
+    → (left < 10) × (set l at (48 + left) ≡ all)
+written_last at place left l all h e b w =
+    let m = w.more h in
+    let s = digits_one left (omega (arith, m.0)) in
+    let k = digits-small left s in
+    (s, digit-last l at at left s (omega (arith, k)) b ∙ m.1)
+
 -- A space and the number behind it.
 pub spaced-put : (l : List ℕ) (at n : ℕ) → at < length l → put (set l at 32) (at + 1) (decimal n) ≡ put l at (spaced n)
 unfolding spaced

@@ -1,10 +1,7 @@
 -- The place falls to the one behind the first, where one digit is left.
 use native.Mathlib.Omega.{arith}
-use Prim.Native.Nat.{◌+◌, ◌-◌, ◌%◌}
-use mathlib.Core.Path.{ap₂, ◌∙◌, ◌≡◌}
-use lib.ListN.{set}
-use Rattle.print.proofs.DecimalLaws.{digits_one, digits-some}
-use Rattle.print.proofs.PrintLaws.{written_none, written_turn}
+use Rattle.print.proofs.DecimalLaws.{digits-some}
+use Rattle.print.proofs.PrintLaws.{written_last, written_none, written_turn}
 use Rattle.print.proofs.put_decimal.Goals as goal
 
 pub loop-place-init : goal.loop-place-init
@@ -21,21 +18,17 @@ loop-place-preserved c =
 pub overflow_cast-out-2 : goal.overflow_cast-out-2
 overflow_cast-out-2 c =
     let l = c.loop-place in
-    let m = l.invariant.1.more l.invariant.0 in
-    omega (arith, digits_one l.left (omega (arith, c.loop-place-test.false, m.0)))
+    let w = written_last c.args.at l.place l.left l.out _ l.invariant.0 (omega (arith, c.loop-place-test.false)) (omega (arith, l.auto.out, c.requires)) l.invariant.1 in
+    omega (arith, w.0)
 
 pub overflow_add-out-2 : goal.overflow_add-out-2
 overflow_add-out-2 c =
     let l = c.loop-place in
-    let m = l.invariant.1.more l.invariant.0 in
-    omega (arith, digits_one l.left (omega (arith, c.loop-place-test.false, m.0)))
+    let w = written_last c.args.at l.place l.left l.out _ l.invariant.0 (omega (arith, c.loop-place-test.false)) (omega (arith, l.auto.out, c.requires)) l.invariant.1 in
+    omega (arith, w.0)
 
 pub returns : goal.returns
 returns c =
     let l = c.loop-place in
-    let m = l.invariant.1.more l.invariant.0 in
-    let h = digits_one l.left (omega (arith, c.loop-place-test.false, m.0)) in
-    let p : c.args.at ≡ l.place - 1 = omega (arith, c.loop-place-test.false, l.invariant.0) in
-    let d : 48 + l.left ≡ 48 + l.left % 10 = omega (arith, h) in
-    let w = written_turn c.args.at l.place l.left l.out _ l.invariant.0 (omega (arith, l.auto.out, l.auto.place, c.digits.ensures.1)) l.invariant.1 in
-    (ap₂ (set l.out) p d ∙ w.done (omega (arith, p)), omega (arith, c.digits.ensures.0), omega (arith, c.digits.ensures.1))
+    let w = written_last c.args.at l.place l.left l.out _ l.invariant.0 (omega (arith, c.loop-place-test.false)) (omega (arith, l.auto.out, c.requires)) l.invariant.1 in
+    (w.1, omega (arith, c.digits.ensures.0), omega (arith, c.digits.ensures.1))
